@@ -1,0 +1,2 @@
+pub mod Toc
+pub mod Configuration
