@@ -1,0 +1,8 @@
+pub mod Cause
+pub mod Source
+pub mod Sink
+pub mod FromRead
+pub mod ToWrite
+pub mod Steady
+pub mod Reader
+pub mod Memory

@@ -1,0 +1,179 @@
+ghost use Rattle.std.specs.Prelude.{◌≡◌, ◌≢◌, ◌+◌, ◌-◌, ◌^◌, ◌≤◌, ◌<◌, ℕ, [], IfOk, OnOk, OnErr, IsErrOf, min, length, slice_range, vec_len, drop};
+ghost use Rattle.std.specs.Io.KnownBytes.{ReadConsumes};
+ghost use Rattle.std.specs.Io.BufRead.{Rests};
+ghost use Rattle.std.specs.Borrow.{sem};
+ghost use Rattle.opus_io.specs.Source.{SourceCause};
+ghost use Rattle.opus_io.specs.Reader.{ReaderState, Fits, Filled, Looked, LookCause};
+
+use crate::{Failed, NoMemory, Source};
+use std::alloc::Global;
+use std::marker::Model;
+
+// How many bytes the reader keeps at most.
+const BUFFER: usize = 4096;
+
+/// Why a reader shows no more bytes.
+#[derive(Clone, Copy, Debug, PartialEq, Eq)]
+pub enum InStop {
+    /// A read of the source failed. The call may be made again.
+    Read,
+    /// The input is longer than the limit.
+    Limit,
+}
+
+/// Reads a source up to a limit, 4,096 bytes at a time at most.
+///
+/// It doesn't keep the source: each call that may read is handed it.
+#[derive(Drop)]
+pub struct Reader {
+    buffer: Vec<u8>,
+    // The bytes taken and not passed are `buffer[start..end]`.
+    start: usize,
+    end: usize,
+    passed: u64,
+    limit: u64,
+}
+
+impl Model for Reader {
+    ghost Value = { ReaderState };
+
+    ghost view = { λ r. record {
+      bytes = slice_range r.buffer.items r.start r.end;
+      passed = r.passed;
+      limit = r.limit;
+    } };
+
+    ghost invariant = { λ r. Fits (vec_len r.buffer) r.start r.end r.passed r.limit };
+}
+
+impl Reader {
+    ghost use Rattle.opus_io.specs.contracts.reader.Reader.{the_row};
+
+    /// A reader that has taken nothing. `limit` is in bytes, at most 2^40.
+    pub fn new(alloc: Global, limit: u64) -> Result<Reader, NoMemory>
+        requires some { 1 ≤ limit }
+        requires most { limit ≤ 2 ^ 40 }
+        ensures bytes { IfOk result (λ r. r.bytes ≡ []) }
+        ensures passed { IfOk result (λ r. r.passed ≡ 0) }
+        ensures limit { IfOk result (λ r. r.limit ≡ limit) }
+    {
+        let mut buffer = Vec::with_capacity(alloc, BUFFER)?;
+        buffer.resize(BUFFER, 0)?;
+        Ok(Reader {
+            buffer,
+            start: 0,
+            end: 0,
+            passed: 0,
+            limit,
+        })
+    }
+
+    /// Shows the bytes that come next and were taken and not passed, up to the limit.
+    /// It reads the source, once, only where there are none.
+    /// An empty slice is the end of the input.
+    pub fn ahead<'r, S: Source>(&'r mut self, source: &mut S) -> Result<&'r [u8], InStop>
+        ensures* after { sem 𝓛 (Rests the_row self.entry (λ new.
+            Looked self.old new (S.left source.old) (S.left source.new) result)) }
+        ensures untouched { self.old.bytes ≢ [] → source.new ≡ source.old }
+        ensures cause { LookCause (S.faults source.old) (S.faults source.new) result }
+        ensures fault { IsErrOf result InStop.Read → self.old.bytes ≡ [] }
+    {
+        if let Err(stop) = self.fill(source) {
+            return Err(stop);
+        }
+        let kept = self.end - self.start;
+        let shown = least(kept, self.limit - self.passed);
+        if shown == 0 && kept > 0 {
+            return Err(InStop::Limit);
+        }
+        let start = self.start;
+        Ok(&self.buffer[start..start + shown])
+    }
+
+    // Where no byte is kept, reads once.
+    fn fill<S: Source>(&mut self, source: &mut S) -> Result<(), InStop>
+        ensures filled { Filled self.old self.new (S.left source.old) (S.left source.new) result }
+        ensures untouched { self.old.bytes ≢ [] → source.new ≡ source.old }
+        ensures cause { LookCause (S.faults source.old) (S.faults source.new) result }
+    {
+        if self.start < self.end {
+            return Ok(());
+        }
+        self.start = 0;
+        self.end = 0;
+        let room = least(BUFFER, self.limit + 1 - self.passed);
+        match read_buffer(source, &mut self.buffer, room) {
+            Ok(count) => {
+                self.end = count;
+                Ok(())
+            }
+            Err(Failed) => Err(InStop::Read),
+        }
+    }
+
+    /// Passes `n` bytes of those that `ahead` showed.
+    pub fn pass(&mut self, n: usize)
+        requires kept { n ≤ length self.old.bytes }
+        requires within { n ≤ self.old.limit - self.old.passed }
+        ensures bytes { self.new.bytes ≡ drop n self.old.bytes }
+        ensures passed { self.new.passed ≡ self.old.passed + n }
+        ensures limit { self.new.limit ≡ self.old.limit }
+        ensures in_limit { self.new.passed ≤ self.new.limit }
+    {
+        self.start += n;
+        self.passed += n as u64;
+    }
+
+    /// How many bytes were taken from the source, passed or not.
+    pub fn taken(&self) -> u64
+        ensures value { result ≡ self.now.passed + length self.now.bytes }
+        ensures kept { result ≤ self.now.passed + 4096 }
+        ensures in_limit { result ≤ self.now.limit + 1 }
+    {
+        self.passed + (self.end - self.start) as u64
+    }
+
+    /// How many bytes were passed.
+    pub fn passed(&self) -> u64
+        ensures value { result ≡ self.now.passed }
+        ensures in_limit { result ≤ self.now.limit }
+    {
+        self.passed
+    }
+}
+
+// The smaller of a count and a number that may be larger.
+fn least(count: usize, most: u64) -> usize
+    ensures { result ≡ min count most }
+{
+    if (count as u64) < most {
+        count
+    } else {
+        most as usize
+    }
+}
+
+fn read_buffer<S: Source>(
+    source: &mut S,
+    buffer: &mut Vec<u8>,
+    room: usize,
+) -> Result<usize, Failed>
+    requires some { 0 < room }
+    requires fits { room ≤ vec_len buffer.old }
+    ensures len { vec_len buffer.new ≡ vec_len buffer.old }
+    ensures count { IfOk result (λ n. n ≤ room) }
+    ensures bytes { ReadConsumes (S.left source.old) (S.left source.new) result buffer.new.items }
+    ensures cause { SourceCause (S.faults source.old) (S.faults source.new) result }
+{
+    read_front(source, buffer.as_mut_slice(), room)
+}
+
+fn read_front<S: Source>(source: &mut S, buffer: &mut [u8], room: usize) -> Result<usize, Failed>
+    requires some { 0 < room }
+    requires fits { room ≤ length buffer.old }
+    ensures count { IfOk result (λ n. n ≤ room) }
+    ensures bytes { ReadConsumes (S.left source.old) (S.left source.new) result buffer.new }
+    ensures cause { SourceCause (S.faults source.old) (S.faults source.new) result }
+{
+    source.read(&mut buffer[..room])
+}

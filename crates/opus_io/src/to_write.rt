@@ -1,0 +1,41 @@
+ghost use Rattle.std.specs.Prelude.{◌≡◌, ◌+◌, ◌-◌, ◌^◌, ◌≤◌, min};
+ghost use Rattle.opus_io.specs.ToWrite.{inner_writer, write_errors};
+
+use crate::{Sink, SinkStop};
+use std::io::Write;
+
+/// Any writer of std as a sink. It counts the writer's errors, up to 2^64 - 1 of them.
+/// A writer that takes no byte of a piece has met an error too.
+#[derive(Drop)]
+pub struct ToWrite<W> {
+    inner: W,
+    errors: u64,
+}
+
+impl<W> ToWrite<W> {
+    /// A sink over `inner`, with no error counted yet.
+    pub fn new(inner: W) -> ToWrite<W>
+        ensures inner { inner_writer result ≡ inner }
+        ensures errors { write_errors result ≡ 0 }
+    {
+        ToWrite { inner, errors: 0 }
+    }
+}
+
+impl<W: Write> Sink for ToWrite<W> {
+    ghost contents = { λ s. W.contents (inner_writer s) };
+
+    ghost faults = { write_errors };
+
+    ghost refusals = { λ _. 0 };
+
+    fn write(&mut self, piece: &[u8]) -> Result<usize, SinkStop> {
+        match self.inner.write(piece) {
+            Ok(count) if count > 0 => Ok(count),
+            _ => {
+                self.errors = self.errors.saturating_add(1);
+                Err(SinkStop::Failed)
+            }
+        }
+    }
+}
