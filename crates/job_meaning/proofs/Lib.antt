@@ -1,0 +1,11 @@
+pub mod SplitLemmas
+pub mod RunLemmas
+pub mod ReadingLemmas
+pub mod ExistsLemmas
+pub mod OrderLemmas
+pub mod FaultLemmas
+pub mod NormLemmas
+pub mod CheckLemmas
+pub mod CanonicalSize
+pub mod AgainLemmas
+pub mod StandardFacts

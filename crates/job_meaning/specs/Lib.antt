@@ -1,0 +1,13 @@
+pub mod Refusal
+pub mod Records
+pub mod Job
+pub mod Split
+pub mod Reading
+pub mod Ends
+pub mod NoteLine
+pub mod Norm
+pub mod Check
+pub mod Written
+pub mod FirstFault
+pub mod SameRecords
+pub mod InOrder

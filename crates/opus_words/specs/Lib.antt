@@ -1,0 +1,6 @@
+pub mod Number
+pub mod Jobs
+pub mod Options
+pub mod CommandLine
+pub mod Words
+pub mod Fit

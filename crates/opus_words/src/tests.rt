@@ -1,0 +1,171 @@
+//! Words and what they stand for. Only norm and check of one stream are done so far.
+use crate::table::Lack;
+use crate::{Form, Job, JobKind, Opt, WordsFault, job_of};
+use std::alloc::{AllocError, Global};
+use std::test::Fail;
+
+/// The answer to a line of words with a blank between each two.
+fn answer(alloc: Global, line: &str) -> Result<Result<Job, WordsFault>, AllocError> {
+    let mut words = Vec::new(alloc);
+    for word in line.split_whitespace() {
+        words.push(String::from_str(alloc, word)?)?;
+    }
+    Ok(job_of(alloc, words.as_slice()))
+}
+
+const NORM: Job = Job {
+    kind: JobKind::Norm,
+    form: Some(Form::Raw),
+    streams: Some(1),
+    stream: None,
+    group: None,
+    frames: None,
+    size: None,
+    pt: None,
+    seq: None,
+    stamp: None,
+    ssrc: None,
+    seed: None,
+    count: None,
+};
+
+#[test]
+fn takes_norm_with_its_options_in_any_order(rt: HostRuntime) -> Result<(), Fail> {
+    let lines = [
+        "norm",
+        "norm --form raw",
+        "norm --form=raw",
+        "--form raw norm",
+        "--form=raw norm --streams 1",
+        "--streams 1 --form raw norm",
+    ];
+    for line in lines {
+        assert_eq!(rt; answer(rt.alloc(), line)?, Ok(NORM), "{line}");
+    }
+    let mut framed = NORM;
+    framed.form = Some(Form::SelfDelimited);
+    assert_eq!(rt; answer(rt.alloc(), "norm --form self --streams 1")?, Ok(framed));
+    let mut checked = NORM;
+    checked.kind = JobKind::Check;
+    checked.form = Some(Form::Demo);
+    assert_eq!(rt; answer(rt.alloc(), "check --form=demo")?, Ok(checked));
+    Ok(())
+}
+
+/// Each row has words, and then the usage kind that they give.
+const ROWS: &str = "\
+norm --loud yes = Words
+ = Words
+norm norm = Words
+--form raw = Words
+norm --form = Words
+norm --for raw = Words
+norm --Form raw = Words
+norm -f raw = Words
+norm --form raw --form raw = Words
+norm --form=raw --form demo = Words
+sing --seed 1 --seed 1 = Words
+--help = Words
+norm --help = Words
+-h = Words
+--version = Words
+norm -V = Words
+sing = Job
+Norm = Job
+sing --size x = Job
+head --form raw = Option(Form)
+apart --form demo = Option(Form)
+merge --streams 1 = Option(Streams)
+join --stream 0 = Option(Stream)
+split --group 1 = Option(Group)
+merge --frames 1 = Option(Frames)
+norm --size 4 = Option(Size)
+split --form x --size 4 = Option(Size)
+sdp --pt 1 = Option(Pt)
+recv --seq 1 = Option(Seq)
+replay --stamp 1 = Option(Stamp)
+make --ssrc 1 = Option(Ssrc)
+send --seed 1 = Option(Seed)
+check --count=1 = Option(Count)
+norm --count 1 --stream 1 = Option(Stream)
+norm --form RAW = Value(Form)
+merge --form raw = Value(Form)
+pad --form self = Value(Form)
+norm --streams 0 = Value(Streams)
+norm --streams 256 = Value(Streams)
+norm --streams 01 = Value(Streams)
+norm --streams +1 = Value(Streams)
+extract --stream 300 = Value(Stream)
+extract --stream 255 = Value(Stream)
+merge --group 49 = Value(Group)
+split --frames 0 = Value(Frames)
+split --frames=49 = Value(Frames)
+pad --size 33554432 = Value(Size)
+send --pt 128 = Value(Pt)
+send --seq 65536 = Value(Seq)
+send --stamp 4294967296 = Value(Stamp)
+recv --ssrc 99999999999999999999 = Value(Ssrc)
+make --seed 1x = Value(Seed)
+trial --count 1000001 = Value(Count)
+trial --count 1_000 = Value(Count)
+extract --stream 7 = Missing(Streams)
+apart = Missing(Streams)
+join = Missing(Streams)
+extract --streams 2 = Missing(Stream)
+pad = Missing(Size)
+make --seed 3 = Missing(Count)
+trial = Missing(Count)
+extract --streams 2 --stream 2 = Value(Stream)
+norm --form self --streams 2 = Value(Streams)
+norm --streams 2 = NotBuilt
+check --streams 2 = NotBuilt
+show --form self = NotBuilt
+merge --group 48 = NotBuilt
+split --frames 48 = NotBuilt
+pad --size 33554431 = NotBuilt
+apart --streams 255 = NotBuilt
+join --streams 1 = NotBuilt
+extract --streams 255 --stream 254 = NotBuilt
+head = NotBuilt
+send --pt 127 --seq 65535 --stamp 4294967295 --ssrc 4294967295 = NotBuilt
+recv --pt 0 --ssrc 0 = NotBuilt
+replay = NotBuilt
+sdp = NotBuilt
+make --seed 4294967295 --count 0 = NotBuilt
+trial --count 1000000 = NotBuilt
+";
+
+#[test]
+fn names_what_is_wrong(rt: HostRuntime) -> Result<(), Fail> {
+    for row in ROWS.lines() {
+        let (line, want) = row.split_once(" = ").ok_or("a row has two parts")?;
+        let kind = answer(rt.alloc(), line)?
+            .err()
+            .ok_or("a row has a usage kind")?;
+        let text = format!(in rt.alloc(); "{kind:?}")?;
+        assert_eq!(rt;
+            text.as_str(),
+            format!(in rt.alloc(); "Usage({want})")?.as_str(),
+            "{line}"
+        );
+    }
+    Ok(())
+}
+
+#[test]
+fn has_these_defaults(rt: HostRuntime) {
+    let rows = [
+        (Opt::Streams, JobKind::Show, Some(Lack::Number(1))),
+        (Opt::Group, JobKind::Merge, Some(Lack::Open)),
+        (Opt::Frames, JobKind::Split, Some(Lack::Number(1))),
+        (Opt::Pt, JobKind::Send, Some(Lack::Number(96))),
+        (Opt::Pt, JobKind::Replay, Some(Lack::Open)),
+        (Opt::Seq, JobKind::Send, Some(Lack::Number(0))),
+        (Opt::Ssrc, JobKind::Recv, Some(Lack::Open)),
+        (Opt::Seed, JobKind::Trial, Some(Lack::Number(0))),
+        (Opt::Form, JobKind::Send, None),
+    ];
+    for (opt, kind, lack) in rows {
+        assert_eq!(rt; opt.lack(kind), lack);
+    }
+}
