@@ -1,0 +1,4 @@
+pub mod SelfLemmas
+pub mod SelfPrefixLemmas
+pub mod ReadSelf
+pub mod StandardFacts

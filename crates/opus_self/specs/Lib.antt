@@ -1,0 +1,3 @@
+pub mod ValueBehind
+pub mod BecomesSelf
+pub mod LongestSelfPrefix

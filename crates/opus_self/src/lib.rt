@@ -1,0 +1,8 @@
+//! Self-delimited Opus packets over a slice (RFC 6716, Appendix B): packets that say themselves where they end,
+//! which rule the bytes break and where.
+#![tactic(auto)]
+
+pub mod laws;
+mod self_delimited;
+
+pub use self_delimited::{SelfRead, decode_self};
