@@ -1,0 +1,14 @@
+pub mod SpansLemmas
+pub mod ReadLengths
+pub mod BytesLemmas
+pub mod LengthsReadLemmas
+pub mod WayLemmas
+pub mod FirstBytes
+pub mod HeaderLemmas
+pub mod CutLemmas
+pub mod GrammarLemmas
+pub mod Made
+pub mod ReadBody
+pub mod PrefixLemmas
+pub mod CanonicalLemmas
+pub mod StandardFacts

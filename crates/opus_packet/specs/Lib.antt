@@ -1,0 +1,16 @@
+pub mod Value
+pub mod Header
+pub mod PacketGrammar
+pub mod SelfGrammar
+pub mod HeaderRead
+pub mod PacketPrefix
+pub mod SelfPrefix
+pub mod PacketFault
+pub mod LongestPrefix
+pub mod Canonical
+pub mod Read
+pub mod Spans
+pub mod Inside
+pub mod FramesLeft
+pub mod Lengths
+pub mod HeaderStands

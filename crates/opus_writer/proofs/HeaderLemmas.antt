@@ -1,0 +1,55 @@
+-- Headers made of lengths.
+use Rattle.std.proofs.Common.{◌≡◌, ℕ, ◌+◌, ◌-◌, ◌≤◌, Bool, true, false, ◌||◌, ◌==◌, if◌then◌else◌, List, ◌∷◌, ◌++◌, length, take, flat_map, All, refl, sym, ap, ◌∙◌, length-take-le, arith}
+use Rattle.std.proofs.lemmas.List.Elements.{All-take, All-nil}
+use Rattle.opus_toc.specs.Toc.{toc_byte}
+use Rattle.opus_flen.specs.FrameLength.{length_bytes}
+use Rattle.opus_packet.specs.declared.shape.Shape.{Shape}
+use Rattle.opus_packet.specs.Value.{max_frame}
+use Rattle.opus_packet.specs.Header.{equal, given, frame_count, given_lengths, count_and_padding, header_bytes}
+use Rattle.opus_packet.specs.PacketGrammar.{sizes_for}
+use Rattle.opus_packet.proofs.HeaderLemmas.{header_bytes-is}
+use Rattle.opus_writer.specs.CanonicalHeader.{header_in}
+
+count_by : (b : Bool) (lengths : List ℕ) → 1 ≤ length lengths
+    → frame_count (if b then given (take (length lengths - 1) lengths) else equal (length lengths))
+    ≡ length lengths
+count_by true lengths some =
+    let front = length-take-le (length lengths - 1) lengths (omega arith) in omega arith
+count_by false lengths some = refl
+
+pub frame_count-sizes_for : (shape : Shape) (lengths : List ℕ) → 1 ≤ length lengths
+    → frame_count (sizes_for shape lengths) ≡ length lengths
+frame_count-sizes_for shape lengths some = count_by ((shape.code == 2) || shape.vbr) lengths some
+
+-- the bytes of a header, its count taken from the lengths
+pub header_in-is : (config : ℕ) (stereo : Bool) (shape : Shape) (lengths : List ℕ) → 1 ≤ length lengths
+    → toc_byte config stereo shape.code
+    ∷ (count_and_padding shape (length lengths)
+    ++ flat_map length_bytes (given_lengths (sizes_for shape lengths)))
+    ≡ header_bytes (header_in config stereo shape lengths)
+header_in-is config stereo shape lengths some =
+    sym (header_bytes-is (header_in config stereo shape lengths)
+    ∙ ap (λ n. toc_byte config stereo shape.code
+    ∷ (count_and_padding shape n ++ flat_map length_bytes (given_lengths (sizes_for shape lengths))))
+    (frame_count-sizes_for shape lengths some))
+
+few_by : (b : Bool) (lengths : List ℕ) → 1 ≤ length lengths
+    → length (given_lengths (if b then given (take (length lengths - 1) lengths) else equal (length lengths)))
+    + 1 ≤ length lengths
+few_by true lengths some =
+    let front = length-take-le (length lengths - 1) lengths (omega arith) in omega arith
+few_by false lengths some = some
+
+pub length-given_lengths : (shape : Shape) (lengths : List ℕ) → 1 ≤ length lengths
+    → length (given_lengths (sizes_for shape lengths)) + 1 ≤ length lengths
+length-given_lengths shape lengths some = few_by ((shape.code == 2) || shape.vbr) lengths some
+
+each_by : (b : Bool) (lengths : List ℕ) → All (λ n. n ≤ max_frame) lengths
+    → All (λ n. n ≤ max_frame)
+    (given_lengths (if b then given (take (length lengths - 1) lengths) else equal (length lengths)))
+each_by true lengths each = All-take (λ n. n ≤ max_frame) (length lengths - 1) lengths each
+each_by false lengths each = All-nil (λ n. n ≤ max_frame)
+
+pub All-given_lengths : (shape : Shape) (lengths : List ℕ) → All (λ n. n ≤ max_frame) lengths
+    → All (λ n. n ≤ max_frame) (given_lengths (sizes_for shape lengths))
+All-given_lengths shape lengths each = each_by ((shape.code == 2) || shape.vbr) lengths each
