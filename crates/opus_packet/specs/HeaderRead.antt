@@ -3,10 +3,10 @@ use Rattle.std.specs.Prelude.{ℕ, zero, suc, ◌+◌, ◌-◌, ◌*◌, ◌/◌
 use Rattle.opus_toc.specs.Toc.{config_of, stereo_of, code_of}
 use Rattle.opus_toc.specs.Configuration.{samples_of}
 use Rattle.opus_flen.specs.declared.frame_length.LenRead.{LenRead}
-use Rattle.opus_flen.specs.declared.frame_length.LenRead.TheVariants as length
+use Rattle.opus_flen.specs.declared.frame_length.LenRead.TheVariants as frame_length
 use Rattle.opus_flen.specs.FrameLength.{length_read}
 use Rattle.opus_flen.specs.declared.padding_length.PadRead.{PadRead}
-use Rattle.opus_flen.specs.declared.padding_length.PadRead.TheVariants as padding
+use Rattle.opus_flen.specs.declared.padding_length.PadRead.TheVariants as padding_length
 use Rattle.opus_flen.specs.PaddingLength.{padding_read}
 use Rattle.opus_packet.specs.declared.shape.Shape.{Shape}
 use Rattle.opus_packet.specs.Value.{max_duration}
@@ -21,8 +21,8 @@ pub data HeaderRead : Type 0 where
 
 -- a length that was read, and then the others behind the bytes that it used
 abbrev pub lengths_after : LenRead → (ℕ → Option (List ℕ)) → Option (List ℕ)
-lengths_after (length.Len n used) rest = option_map (λ ns. n ∷ ns) (rest used)
-lengths_after length.Cut rest = None
+lengths_after (frame_length.Len n used) rest = option_map (λ ns. n ∷ ns) (rest used)
+lengths_after frame_length.Cut rest = None
 
 -- so many lengths, one after another
 abbrev pub lengths_read : ℕ → List ℕ → Option (List ℕ)
@@ -70,10 +70,10 @@ after_padding toc count pad bytes =
 
 -- code 3 behind the count byte, by what its padding length says
 abbrev pub with_padding : ℕ → ℕ → List ℕ → PadRead → HeaderRead
-with_padding toc count bytes (padding.Pad total used) =
+with_padding toc count bytes (padding_length.Pad total used) =
     after_padding toc count total (drop used bytes)
-with_padding toc count bytes padding.Cut = partial
-with_padding toc count bytes (padding.Limit place) = refused (place + 2)
+with_padding toc count bytes padding_length.Cut = partial
+with_padding toc count bytes (padding_length.Limit place) = refused (place + 2)
 
 -- code 3 behind the count byte
 abbrev pub after_count : ℕ → ℕ → List ℕ → HeaderRead

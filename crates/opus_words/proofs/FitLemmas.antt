@@ -6,7 +6,10 @@ use Rattle.std.proofs.lemmas.Bool.{leb-true}
 use Rattle.std.specs.List.{list_all, list_any}
 use Rattle.std.specs.Option.{option_map_or}
 use Rattle.std.specs.Str.{bytes_eq}
-use Rattle.clap.specs.Words.{Row}
+use Rattle.clap.specs.Words.{Row, matches_of}
+use Rattle.clap.specs.Faults.{fault_of}
+use Rattle.clap.specs.Kinds.{Kinds}
+use Rattle.opus_words.specs.CommandLine.{command_app, line_of}
 use Rattle.opus_words.specs.Fit.{IsBetween, IsFit, IsFormFor, IsNumberFor, number_at}
 use Rattle.opus_words.specs.Jobs.{form_name, form_within, forms_of, has_own_stream, is_built, is_form}
 use Rattle.opus_words.specs.Jobs.{is_self_of_many}
@@ -14,6 +17,7 @@ use Rattle.opus_words.specs.Number.{is_number, number_within, value_of}
 use Rattle.opus_words.specs.Options.{lack_of, options, row_of}
 use Rattle.opus_words.specs.Words.{first_fault, form_from, is_foreign, is_missing, is_need, is_unfit}
 use Rattle.opus_words.specs.Words.{is_value_of, job_of_rows, job_with, judged, judged_if_named}
+use Rattle.opus_words.specs.Words.{job_of_line, job_of_words, job_unless}
 use Rattle.opus_words.specs.Words.{kind_of, number_from, number_of, text_of}
 use Rattle.opus_words.specs.declared.fault.UsageKind.{UsageKind}
 use Rattle.opus_words.specs.declared.form.Form.{Form}
@@ -242,3 +246,13 @@ named_fits (Some kind) rows job h = judged_fits kind rows job h
 pub job_of_rows-fits : (rows : List Row) (job : Job) (r : Result Job UsageKind)
     → r ≡ job_of_rows rows → r ≡ Ok job → IsFit job
 job_of_rows-fits rows job r e h = named_fits (kind_of rows) rows job (sym e ∙ h)
+
+unless_fits : (kinds : Kinds) (rows : List Row) (job : Job) → job_unless kinds rows ≡ Ok job → IsFit job
+unless_fits [] rows job h = job_of_rows-fits rows job (Ok job) (sym h) refl
+unless_fits (fault ∷ faults) rows job h = absurd (cc)
+
+-- a job that words stand for has the options of the table
+pub job_of_words-fits : (words : List (List ℕ)) (job : Job) → job_of_words words ≡ Ok job → IsFit job
+unfolding job_of_line
+job_of_words-fits words job h =
+    unless_fits (fault_of command_app (line_of words)) (matches_of command_app (line_of words)) job h

@@ -8,6 +8,7 @@ mod fault;
 mod form;
 mod job;
 mod kind;
+pub mod laws;
 mod matched;
 mod number;
 mod option;

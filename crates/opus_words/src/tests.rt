@@ -44,7 +44,10 @@ fn takes_norm_with_its_options_in_any_order(rt: HostRuntime) -> Result<(), Fail>
     }
     let mut framed = NORM;
     framed.form = Some(Form::SelfDelimited);
-    assert_eq!(rt; answer(rt.alloc(), "norm --form self --streams 1")?, Ok(framed));
+    assert_eq!(rt;
+        answer(rt.alloc(), "norm --form self --streams 1")?,
+        Ok(framed)
+    );
     let mut checked = NORM;
     checked.kind = JobKind::Check;
     checked.form = Some(Form::Demo);

@@ -1,0 +1,3 @@
+pub mod DemoStore
+pub mod DemoReader
+pub mod HeadBytes

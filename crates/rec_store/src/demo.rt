@@ -1,0 +1,196 @@
+ghost use Rattle.std.specs.Prelude.{◌≡◌, ◌≢◌, ◌↔◌, ◌+◌, ◌-◌, ◌≤◌, [], length, drop, true, IsOk};
+ghost use Rattle.std.specs.Int.{w32, to_be_bytes};
+ghost use Rattle.std.specs.Io.BufRead.{Rests};
+ghost use Rattle.std.specs.Borrow.{sem};
+ghost use Rattle.opus_io.specs.contracts.reader.Reader.{the_row};
+ghost use Rattle.opus_io.specs.Reader.{LookCause};
+ghost use Rattle.rec_store.specs.DemoStore.{demo_head};
+ghost use Rattle.rec_store.specs.DemoReader.{DemoState, DemoNext, StoreCause, left_after, PieceLooked};
+ghost use Rattle.rec_store.specs.HeadBytes.{TakesHead};
+
+use crate::{StoreFault, StoreStop};
+use byteorder::{BigEndian, ByteOrder};
+use opus_io::{InStop, Reader, Source};
+use std::marker::Model;
+
+/// What stands before a record's payload.
+#[derive(Clone, Copy, Debug, PartialEq, Eq)]
+pub struct DemoHead {
+    /// Bytes of the payload. 0 is a lost packet.
+    pub len: u32,
+    /// The final range of the coder.
+    pub range: u32,
+}
+
+/// Reads the records of an `opus_demo` store one after the other: a head, and then the payload in
+/// pieces.
+///
+/// It keeps neither the reader nor the source: each call that may read is handed both.
+#[derive(Drop)]
+pub struct DemoReader {
+    left: u32,
+    live: bool,
+}
+
+impl Model for DemoReader {
+    ghost Value = { DemoState };
+
+    ghost view = { λ d. record { left = d.left; live = d.live } };
+}
+
+impl DemoReader {
+    /// A reader at the front of a store.
+    pub fn new() -> DemoReader
+        ensures left { result.left ≡ 0 }
+        ensures live { result.live ≡ true }
+    {
+        DemoReader {
+            left: 0,
+            live: true,
+        }
+    }
+
+    /// Reads the head of the next record. None is the end of the input.
+    pub fn next<S: Source>(
+        &mut self,
+        input: &mut Reader,
+        source: &mut S,
+    ) -> Result<Option<DemoHead>, StoreStop>
+        requires live { self.old.live ≡ true }
+        requires done { self.old.left ≡ 0 }
+        ensures answer { DemoNext input.old input.new (S.left source.old) (S.left source.new)
+            result }
+        ensures left { self.new.left ≡ left_after result }
+        ensures live { self.new.live ≡ true ↔ IsOk result }
+        ensures untouched { 8 ≤ length input.old.bytes → 8 ≤ input.old.limit - input.old.passed
+            → source.new ≡ source.old }
+        ensures cause { StoreCause (S.faults source.old) (S.faults source.new) result }
+    {
+        let result = read_head(input, source);
+        self.live = result.is_ok();
+        if let Ok(Some(head)) = &result {
+            self.left = head.len;
+        }
+        result
+    }
+
+    /// Shows the bytes of the payload that come next. An empty slice means that none remains.
+    // The reader comes first: a contract can tell what is lent out of the first argument alone.
+    pub fn piece<'r, S: Source>(
+        input: &'r mut Reader,
+        store: &DemoReader,
+        source: &mut S,
+    ) -> Result<&'r [u8], StoreStop>
+        requires live { store.now.live ≡ true }
+        ensures* after { sem 𝓛 (Rests the_row input.entry (λ new. PieceLooked store.now.left
+            input.old new (S.left source.old) (S.left source.new) result)) }
+        ensures done { store.now.left ≡ 0 → source.new ≡ source.old }
+        ensures untouched { input.old.bytes ≢ [] → source.new ≡ source.old }
+        ensures cause { StoreCause (S.faults source.old) (S.faults source.new) result }
+    {
+        if store.left == 0 {
+            return Ok(&[]);
+        }
+        let passed = input.passed();
+        match input.ahead(source) {
+            Ok([]) => Err(StoreStop::Fault(StoreFault::StoreCut(passed))),
+            Ok(shown) => Ok(&shown[..shown.len().min(store.left as usize)]),
+            Err(InStop::Read) => Err(StoreStop::Read),
+            Err(InStop::Limit) => Err(StoreStop::Limit),
+        }
+    }
+
+    /// Passes `n` bytes of those that `piece` showed.
+    pub fn pass(&mut self, input: &mut Reader, n: usize)
+        requires left { n ≤ self.old.left }
+        requires kept { n ≤ length input.old.bytes }
+        requires within { n ≤ input.old.limit - input.old.passed }
+        ensures left { self.new.left ≡ self.old.left - n }
+        ensures live { self.new.live ≡ self.old.live }
+        ensures bytes { input.new.bytes ≡ drop n input.old.bytes }
+        ensures passed { input.new.passed ≡ input.old.passed + n }
+        ensures limit { input.new.limit ≡ input.old.limit }
+        ensures in_limit { input.new.passed ≤ input.new.limit }
+    {
+        input.pass(n);
+        let left = self.left as usize;
+        self.left = (left - n) as u32;
+    }
+
+    /// Bytes of the payload that remain.
+    pub fn left(&self) -> u32
+        ensures { result ≡ self.now.left }
+    {
+        self.left
+    }
+
+    /// Whether more may be asked: no call answered a fault, a failed read or the limit.
+    pub fn live(&self) -> bool
+        ensures { result ≡ self.now.live }
+    {
+        self.live
+    }
+}
+
+// Reads the head that comes next, and nothing behind it.
+fn read_head<S: Source>(input: &mut Reader, source: &mut S) -> Result<Option<DemoHead>, StoreStop>
+    ensures answer { DemoNext input.old input.new (S.left source.old) (S.left source.new) result }
+    ensures untouched { 8 ≤ length input.old.bytes → 8 ≤ input.old.limit - input.old.passed
+        → source.new ≡ source.old }
+    ensures cause { StoreCause (S.faults source.old) (S.faults source.new) result }
+{
+    let mut head = [0; 8];
+    match take_head(input, source, &mut head) {
+        Ok(0) => Ok(None),
+        Ok(8) => Ok(Some(head_of(&head))),
+        Ok(_) => Err(StoreStop::Fault(StoreFault::StoreCut(input.passed()))),
+        Err(InStop::Read) => Err(StoreStop::Read),
+        Err(InStop::Limit) => Err(StoreStop::Limit),
+    }
+}
+
+// Fills `head` with the bytes that come next, and tells how many there are.
+fn take_head<S: Source>(
+    input: &mut Reader,
+    source: &mut S,
+    head: &mut [u8],
+) -> Result<usize, InStop>
+    requires { length head.old ≡ 8 }
+    ensures answer { TakesHead input.old input.new (S.left source.old) (S.left source.new)
+        head.new result }
+    ensures untouched { 8 ≤ length input.old.bytes → 8 ≤ input.old.limit - input.old.passed
+        → source.new ≡ source.old }
+    ensures cause { LookCause (S.faults source.old) (S.faults source.new) result }
+{
+    'bytes: for count in 0..head.len() {
+        let shown = match input.ahead(source) {
+            Ok(shown) => shown,
+            Err(stop) => return Err(stop),
+        };
+        let [byte, ..] = shown else {
+            return Ok(count);
+        };
+        head[count] = *byte;
+        input.pass(1);
+    }
+    Ok(head.len())
+}
+
+// The head that eight bytes spell.
+fn head_of(bytes: &[u8]) -> DemoHead
+    requires { length bytes.now ≡ 8 }
+    ensures { demo_head result.len result.range ≡ bytes.now }
+{
+    DemoHead {
+        len: read_number(&bytes[..4]),
+        range: read_number(&bytes[4..]),
+    }
+}
+
+// The number that four bytes spell.
+fn read_number(bytes: &[u8]) -> u32
+    requires { length bytes.now ≡ 4 }
+    ensures { to_be_bytes w32 result ≡ bytes.now }
+{
+    BigEndian::read_u32(bytes)
+}

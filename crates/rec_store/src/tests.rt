@@ -1,0 +1,86 @@
+use crate::{DemoReader, StoreFault, StoreStop, demo_head, demo_record};
+use opus_io::{MemorySource, Reader, Source};
+use std::alloc::AllocError;
+use std::test::Fail;
+
+// Takes heads and payloads up to the end of the store, and tells why it stopped before.
+fn take_store<S: Source>(
+    input: &mut Reader,
+    source: &mut S,
+    taken: &mut Vec<u8>,
+) -> Result<Option<StoreStop>, AllocError> {
+    let mut store = DemoReader::new();
+    for _ in 0..1000 {
+        if !store.live() {
+            return Ok(None);
+        }
+        if store.left() == 0 {
+            match store.next(input, source) {
+                Ok(Some(head)) => taken.extend_from_slice(&demo_head(head.len, head.range))?,
+                Ok(None) => return Ok(None),
+                Err(stop) => return Ok(Some(stop)),
+            }
+            continue;
+        }
+        match DemoReader::piece(input, &store, source) {
+            Ok(shown) => {
+                let count = shown.len();
+                taken.extend_from_slice(shown)?;
+                store.pass(input, count);
+            }
+            Err(stop) => return Ok(Some(stop)),
+        }
+    }
+    Ok(None)
+}
+
+const CUT: [u8; 10] = [0, 0, 0, 3, 0, 0, 0, 0, 0xF8, 0xAA];
+
+const TWO: [u8; 18] = [0, 0, 0, 2, 0, 0, 0, 1, 0xF8, 0xAA, 0, 0, 0, 0, 0, 0, 0, 7];
+
+#[test]
+fn records_are_read_up_to_their_end(rt: HostRuntime) -> Result<(), Fail> {
+    let alloc = rt.alloc();
+    let cut_at = |place| Some(StoreStop::Fault(StoreFault::StoreCut(place)));
+    let rows = [
+        (&CUT[..], 100, cut_at(10), 10),
+        (&CUT[..8], 100, cut_at(8), 8),
+        (&CUT[..7], 100, cut_at(7), 0),
+        (&CUT[..0], 100, None, 0),
+        (&TWO[..], 18, None, 18),
+        (&TWO[..], 17, Some(StoreStop::Limit), 10),
+        (&TWO[..], 9, Some(StoreStop::Limit), 9),
+        (&TWO[..17], 17, cut_at(17), 10),
+    ];
+    for (bytes, limit, end, count) in rows {
+        for step in [1, 4096] {
+            let mut input = Reader::new(alloc, limit)?;
+            let mut source = MemorySource::new(alloc, bytes, step, &[])?;
+            let mut taken = Vec::new(alloc);
+            assert_eq!(rt; take_store(&mut input, &mut source, &mut taken)?, end);
+            assert_eq!(rt; (taken.len(), bytes.starts_with(&taken)), (count, true));
+        }
+    }
+    Ok(())
+}
+
+#[test]
+fn a_failed_read_ends_the_store(rt: HostRuntime) -> Result<(), Fail> {
+    let alloc = rt.alloc();
+    let mut input = Reader::new(alloc, 100)?;
+    let mut source = MemorySource::new(alloc, &TWO, 3, &[2])?;
+    let mut store = DemoReader::new();
+    assert_eq!(rt; store.next(&mut input, &mut source), Err(StoreStop::Read));
+    assert_eq!(rt; (input.passed(), store.live()), (3, false));
+    Ok(())
+}
+
+#[test]
+fn records_are_appended(rt: HostRuntime) -> Result<(), Fail> {
+    let alloc = rt.alloc();
+    let mut out = Vec::new(alloc);
+    assert_eq!(rt; demo_record(1, &[0xF8, 0xAA], &mut out), Ok(()));
+    assert_eq!(rt; demo_record(7, &[], &mut out), Ok(()));
+    assert_eq!(rt; out.as_slice(), TWO.as_slice());
+    Ok(())
+}
