@@ -1,0 +1,36 @@
+//! `opuspack`: Opus packets checked and rewritten, from standard input to standard output.
+#![tactic(auto)]
+
+mod arguments;
+mod finish;
+mod line;
+mod run;
+mod status;
+#[cfg(test)]
+mod tests;
+
+use crate::arguments::words_of;
+use crate::run::{MAX_INPUT, run};
+use opus_io::{FromRead, ToWrite};
+use std::process::ExitCode;
+
+fn main(rt: HostRuntime) -> ExitCode {
+    let mut note = ToWrite::new(rt.stderr());
+    let status = match words_of(&rt) {
+        Ok(words) => {
+            let mut source = FromRead::new(rt.stdin());
+            let mut out = ToWrite::new(rt.stdout());
+            let words = words.as_slice();
+            run(
+                rt.alloc(),
+                words,
+                MAX_INPUT,
+                &mut source,
+                &mut out,
+                &mut note,
+            )
+        }
+        Err(finish) => finish.tell(&mut note),
+    };
+    ExitCode::from(status.code())
+}

@@ -1,0 +1,60 @@
+//! The whole program, over any source and any sinks.
+ghost use Rattle.std.specs.Prelude.{◌≡◌, ℕ, ◌^◌, ◌≤◌, map, string_bytes};
+ghost use Rattle.opus_words.specs.Words.{job_of_words};
+ghost use Rattle.opuspack.specs.declared.finish.Finish.{Finish};
+ghost use Rattle.opuspack.specs.Finish.{status_of, note_of, Noted};
+ghost use Rattle.opuspack.specs.Run.{Meant};
+
+use crate::finish::Finish;
+use crate::status::Status;
+use opus_io::{Sink, Source};
+use opus_words::{Ending, WordsFault, job_of};
+use pack_jobs::pack_job;
+use std::alloc::Global;
+
+/// Most bytes of input that the program takes: 2^40.
+pub const MAX_INPUT: u64 = 1_099_511_627_776;
+
+/// Does what `words`, the arguments without the program's name, ask for: reads `source` up to `limit` bytes,
+/// writes to `out`, and tells in one line of `note` how it ended, where it didn't end well.
+pub fn run<S: Source, O: Sink, E: Sink>(
+    alloc: Global,
+    words: &[String],
+    limit: u64,
+    source: &mut S,
+    out: &mut O,
+    note: &mut E,
+) -> Status
+    requires some { 1 ≤ limit }
+    requires most { limit ≤ 2 ^ 40 }
+    ensures { (f : Finish) × (result ≡ status_of f)
+        × Meant (job_of_words (map string_bytes words.now)) limit f
+        (λ s o. record { left = S.left s; reads = S.faults s; contents = O.contents o; writes = O.faults o })
+        source.old source.new out.old out.new
+        × Noted (note_of f) (E.contents note.old) (E.contents note.new) (E.faults note.old)
+        (E.faults note.new) (E.refusals note.old) (E.refusals note.new) }
+{
+    let finish = do_job(alloc, words, limit, source, out);
+    finish.tell(note)
+}
+
+// Does the job that the words stand for.
+fn do_job<S: Source, O: Sink>(
+    alloc: Global,
+    words: &[String],
+    limit: u64,
+    source: &mut S,
+    out: &mut O,
+) -> Finish
+    requires some { 1 ≤ limit }
+    requires most { limit ≤ 2 ^ 40 }
+    ensures { Meant (job_of_words (map string_bytes words.now)) limit result
+        (λ s o. record { left = S.left s; reads = S.faults s; contents = O.contents o; writes = O.faults o })
+        source.old source.new out.old out.new }
+{
+    match job_of(alloc, words) {
+        Ok(job) => Finish::Ended(pack_job(alloc, &job, limit, source, out)),
+        Err(WordsFault::Usage(kind)) => Finish::Usage(kind),
+        Err(WordsFault::NoMemory) => Finish::Ended(Ending::NoMemory),
+    }
+}

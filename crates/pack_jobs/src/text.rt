@@ -1,0 +1,68 @@
+//! Texts in fixed memory.
+ghost use Rattle.std.specs.Prelude.{◌≡◌, ◌+◌, ◌≤◌, ◌<◌, ◌^◌, ◌++◌, ◌∷◌, [], length, decimal};
+ghost use Rattle.arrayvec.specs.ArrayString.{array_string_len};
+ghost use Rattle.job_meaning.specs.Refusal.{rule_name, fault_text};
+
+use arrayvec::ArrayString;
+use opus_packet::{Fault, Rule};
+
+/// The decimal digits of `n`.
+pub fn decimal_text(n: u64) -> ArrayString<20>
+    ensures text { result.bytes ≡ decimal n }
+    ensures most { length result.bytes ≤ 20 }
+{
+    let mut text = ArrayString::new();
+    push_decimal(n, &mut text);
+    text
+}
+
+// Appends the digits, the highest first.
+fn push_decimal(n: u64, text: &mut ArrayString<20>)
+    requires { array_string_len text.old + length (decimal n) ≤ 20 }
+    ensures { text.new.bytes ≡ text.old.bytes ++ decimal n }
+{
+    if n < 10 {
+        push_digit(n as u8, text);
+    } else {
+        push_decimal(n / 10, text);
+        push_digit((n % 10) as u8, text);
+    }
+}
+
+fn push_digit(digit: u8, text: &mut ArrayString<20>)
+    requires digit { digit < 10 }
+    requires room { array_string_len text.old < 20 }
+    ensures { text.new.bytes ≡ text.old.bytes ++ (48 + digit) ∷ [] }
+{
+    text.push(char::from(b'0' + digit));
+}
+
+/// `RULE at P`, where P counts from the packet's first byte.
+pub fn fault_text(fault: Fault) -> ArrayString<64>
+    ensures text { result.bytes ≡ fault_text fault }
+    ensures most { length result.bytes ≤ 32 }
+{
+    let mut text = ArrayString::new();
+    text.push_str(rule_text(fault.rule));
+    text.push_str(" at ");
+    text.push_str(decimal_text(fault.place).as_str());
+    text
+}
+
+// The rule's name.
+fn rule_text(rule: Rule) -> &'static str
+    ensures text { result.now ≡ rule_name rule }
+    ensures most { length result.now ≤ 8 }
+{
+    match rule {
+        Rule::R1 => "R1",
+        Rule::R2 => "R2",
+        Rule::R3 => "R3",
+        Rule::R4 => "R4",
+        Rule::R5 => "R5",
+        Rule::R6 => "R6",
+        Rule::R7 => "R7",
+        Rule::PadLimit => "PadLimit",
+        Rule::Cut => "Cut",
+    }
+}
