@@ -3,6 +3,7 @@ pub mod Records
 pub mod Job
 pub mod Split
 pub mod Reading
+pub mod Settled
 pub mod Ends
 pub mod NoteLine
 pub mod Norm

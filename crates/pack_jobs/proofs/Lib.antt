@@ -6,3 +6,4 @@ pub mod TurnLemmas
 pub mod DecimalLemmas
 pub mod NormSteps
 pub mod CheckSteps
+pub mod PlaceLemmas

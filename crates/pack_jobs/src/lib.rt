@@ -9,6 +9,8 @@ mod norm;
 mod pack;
 mod refusal;
 mod run;
+#[cfg(test)]
+mod tests;
 mod text;
 
 pub use check::Check;

@@ -160,9 +160,202 @@ static FRAMED: [Row; 4] = [
     },
 ];
 
+static CUTS: [Row; 27] = [
+    Row {
+        words: SELF,
+        input: b"\xf8",
+        status: Status::Refused,
+        output: b"",
+        note: "opuspack: refused: record 0 at 1: Cut at 1\n",
+    },
+    Row {
+        words: SELF,
+        input: b"\xf8\xfc",
+        status: Status::Refused,
+        output: b"",
+        note: "opuspack: refused: record 0 at 2: Cut at 2\n",
+    },
+    Row {
+        words: SELF,
+        input: b"\xf8\x01",
+        status: Status::Refused,
+        output: b"",
+        note: "opuspack: refused: record 0 at 2: Cut at 2\n",
+    },
+    Row {
+        words: SELF,
+        input: b"\xf9",
+        status: Status::Refused,
+        output: b"",
+        note: "opuspack: refused: record 0 at 1: Cut at 1\n",
+    },
+    Row {
+        words: SELF,
+        input: b"\xf9\xfc",
+        status: Status::Refused,
+        output: b"",
+        note: "opuspack: refused: record 0 at 2: Cut at 2\n",
+    },
+    Row {
+        words: SELF,
+        input: b"\xf9\x01\xaa",
+        status: Status::Refused,
+        output: b"",
+        note: "opuspack: refused: record 0 at 3: Cut at 3\n",
+    },
+    Row {
+        words: SELF,
+        input: b"\xfa",
+        status: Status::Refused,
+        output: b"",
+        note: "opuspack: refused: record 0 at 1: Cut at 1\n",
+    },
+    Row {
+        words: SELF,
+        input: b"\xfa\xfc",
+        status: Status::Refused,
+        output: b"",
+        note: "opuspack: refused: record 0 at 2: Cut at 2\n",
+    },
+    Row {
+        words: SELF,
+        input: b"\xfa\x01",
+        status: Status::Refused,
+        output: b"",
+        note: "opuspack: refused: record 0 at 2: Cut at 2\n",
+    },
+    Row {
+        words: SELF,
+        input: b"\xfa\x01\xfc",
+        status: Status::Refused,
+        output: b"",
+        note: "opuspack: refused: record 0 at 3: Cut at 3\n",
+    },
+    Row {
+        words: SELF,
+        input: b"\xfa\x01\x01\xaa",
+        status: Status::Refused,
+        output: b"",
+        note: "opuspack: refused: record 0 at 4: Cut at 4\n",
+    },
+    Row {
+        words: SELF,
+        input: b"\xfb",
+        status: Status::Refused,
+        output: b"",
+        note: "opuspack: refused: record 0 at 1: Cut at 1\n",
+    },
+    Row {
+        words: SELF,
+        input: b"\xfb\x02",
+        status: Status::Refused,
+        output: b"",
+        note: "opuspack: refused: record 0 at 2: Cut at 2\n",
+    },
+    Row {
+        words: SELF,
+        input: b"\xfb\x02\x01\xaa",
+        status: Status::Refused,
+        output: b"",
+        note: "opuspack: refused: record 0 at 4: Cut at 4\n",
+    },
+    Row {
+        words: SELF,
+        input: b"\xfb\x42",
+        status: Status::Refused,
+        output: b"",
+        note: "opuspack: refused: record 0 at 2: Cut at 2\n",
+    },
+    Row {
+        words: SELF,
+        input: b"\xfb\x42\xff",
+        status: Status::Refused,
+        output: b"",
+        note: "opuspack: refused: record 0 at 3: Cut at 3\n",
+    },
+    Row {
+        words: SELF,
+        input: b"\xfb\x42\x01",
+        status: Status::Refused,
+        output: b"",
+        note: "opuspack: refused: record 0 at 3: Cut at 3\n",
+    },
+    Row {
+        words: SELF,
+        input: b"\xfb\x42\x01\x00",
+        status: Status::Refused,
+        output: b"",
+        note: "opuspack: refused: record 0 at 4: Cut at 4\n",
+    },
+    Row {
+        words: SELF,
+        input: b"\xfb\x82",
+        status: Status::Refused,
+        output: b"",
+        note: "opuspack: refused: record 0 at 2: Cut at 2\n",
+    },
+    Row {
+        words: SELF,
+        input: b"\xfb\x82\xfc",
+        status: Status::Refused,
+        output: b"",
+        note: "opuspack: refused: record 0 at 3: Cut at 3\n",
+    },
+    Row {
+        words: SELF,
+        input: b"\xfb\x82\x01",
+        status: Status::Refused,
+        output: b"",
+        note: "opuspack: refused: record 0 at 3: Cut at 3\n",
+    },
+    Row {
+        words: SELF,
+        input: b"\xfb\x82\x01\x01\xaa",
+        status: Status::Refused,
+        output: b"",
+        note: "opuspack: refused: record 0 at 5: Cut at 5\n",
+    },
+    Row {
+        words: SELF,
+        input: b"\xfb\x00",
+        status: Status::Refused,
+        output: b"",
+        note: "opuspack: refused: record 0 at 1: R5 at 1\n",
+    },
+    Row {
+        words: SELF,
+        input: b"\xfb\x07\x00",
+        status: Status::Refused,
+        output: b"",
+        note: "opuspack: refused: record 0 at 1: R5 at 1\n",
+    },
+    Row {
+        words: SELF,
+        input: b"\xf8\x01\xaa\xfb\x31",
+        status: Status::Refused,
+        output: b"\xf8\x01\xaa",
+        note: "opuspack: refused: record 1 at 4: R5 at 1\n",
+    },
+    Row {
+        words: SELF,
+        input: b"\xf8\x01\xaa\xf9\x01\xbb",
+        status: Status::Refused,
+        output: b"\xf8\x01\xaa",
+        note: "opuspack: refused: record 1 at 6: Cut at 3\n",
+    },
+    Row {
+        words: SELF,
+        input: b"\xfa\x01\x01\xaa\xbb\xf9\x00\xfb\x82\x01\x00\xcc",
+        status: Status::Ok,
+        output: b"\xf9\x01\xaa\xbb\xf9\x00\xfa\x01\x00\xcc",
+        note: "",
+    },
+];
+
 #[test]
 fn writes_the_canonical_form_or_names_the_fault(rt: HostRuntime) -> Result<(), Fail> {
     assert!(rt; all_met(rt.alloc(), &RAW)?);
     assert!(rt; all_met(rt.alloc(), &FRAMED)?);
+    assert!(rt; all_met(rt.alloc(), &CUTS)?);
     Ok(())
 }
