@@ -6,4 +6,3 @@ pub mod TurnLemmas
 pub mod DecimalLemmas
 pub mod NormSteps
 pub mod CheckSteps
-pub mod PlaceLemmas

@@ -9,8 +9,6 @@ mod norm;
 mod pack;
 mod refusal;
 mod run;
-#[cfg(test)]
-mod tests;
 mod text;
 
 pub use check::Check;

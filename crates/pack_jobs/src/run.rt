@@ -50,7 +50,6 @@ fn run_all<J: RecordJob, S: Source, O: Sink>(
     requires kept { records.old.kept ≡ [] }
     requires index { records.old.index ≡ 0 }
     requires at { records.old.at ≡ 0 }
-    requires most { records.old.limit ≤ 2 ^ 40 }
     ensures right { (k : J.Kept) → J.stands job.old k → k ≡ (J.job job.old).start
         → IsRight (J.job job.old) records.old.form records.old.limit result
         (S.left source.old) (S.left source.new) (O.contents out.old) (O.contents out.new) }

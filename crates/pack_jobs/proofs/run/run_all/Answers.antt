@@ -7,7 +7,6 @@ use Rattle.job_records.specs.Turns.{end_value}
 use Rattle.pack_jobs.specs.Halting.{Handed, Halts}
 use Rattle.pack_jobs.specs.Telling.{Told, IsRight}
 use Rattle.pack_jobs.proofs.Reached.{reached_start, reached_more}
-use Rattle.pack_jobs.proofs.PlaceLemmas.{fits_whole, fits_last}
 use Rattle.pack_jobs.proofs.TurnLemmas.{stopped_right, halted_right, over_right}
 use Rattle.pack_jobs.proofs.run.run_all.Goals as goal
 
@@ -23,22 +22,6 @@ records-init g c = record {
       (g.J.RecordJob.stands c.args.job.now) c.args.records.now (g.S.Source.left c.args.source.now)
       (g.O.Sink.contents c.args.out.now) c.requires.kept c.requires.index c.requires.at stands;
 }
-
-pub hand-requires : goal.hand-requires
-hand-requires g c =
-    let i = c.records.invariant in
-    fits_whole c.records.records c.next.new.self (g.S.Source.left c.records.source)
-    (g.S.Source.left c.next.new.source) c.record.result
-    (omega (arith, c.next.ensures.limit, i.limit, c.requires.most))
-    (rw c.in-Ok-Whole.field-0-is at c.in-Ok-Whole.ensures.turn) c.record.ensures
-
-pub close_with-requires : goal.close_with-requires
-close_with-requires g c =
-    let i = c.records.invariant in
-    fits_last c.records.records c.next.new.self (g.S.Source.left c.records.source)
-    (g.S.Source.left c.next.new.source) c.in-Ok-Last.end c.record-in-Ok-Last.result
-    (omega (arith, i.limit, c.requires.most)) (rw c.in-Ok-Last.field-0-is at c.in-Ok-Last.ensures.turn)
-    c.record-in-Ok-Last.ensures
 
 pub records-preserved : goal.records-preserved
 records-preserved g c =
@@ -59,7 +42,7 @@ records-preserved g c =
           reached_more job k c.args.records.now.form (g.J.RecordJob.stands c.records.job)
           (g.J.RecordJob.stands c.hand.new.job) (left c.args.source.now) (contents c.args.out.now)
           (contents c.records.out) (contents c.hand.new.out) (left c.records.source)
-          (left c.next.new.source) c.records.records c.next.new.self r i.form p turn c.record.ensures
+          (left c.next.new.source) c.records.records c.next.new.self r i.form p turn c.record.ensures.current
           (subst (λ j. Handed (j.step p.kept r) (g.J.RecordJob.stands c.hand.new.job) (contents c.records.out)
           (contents c.hand.new.out)) i.same (c.in_default.ensures.ok p.kept p.stands));
     }
@@ -80,7 +63,7 @@ returns-in-Err-clause-right g c k stands first =
     (halted_right job k form (g.J.RecordJob.stands c.records.job) limit (left c.args.source.now)
     (contents c.args.out.now) (contents c.records.out) (contents c.hand.new.out) (left c.records.source)
     (left c.next.new.source) c.records.records c.next.new.self r c.in-Err.halt first i.form
-    (c.next.ensures.limit ∙ i.limit) p turn c.record.ensures
+    (c.next.ensures.limit ∙ i.limit) p turn c.record.ensures.current
     (subst (λ j. Halts c.in-Err.halt (j.step p.kept r) (contents c.records.out) (contents c.hand.new.out)) i.same
     (c.in-Err.ensures.halt p.kept p.stands)))
 
@@ -99,7 +82,7 @@ returns-in-Ok-Last-clause-right g c k stands first =
     over_right job k form (g.J.RecordJob.stands c.records.job) limit (left c.args.source.now)
     (contents c.args.out.now) (contents c.records.out) (contents c.close_with.new.out) (left c.records.source)
     (left c.next.new.source) c.records.records c.next.new.self true end (r ∷ []) c.close_with.result first i.form
-    i.limit p turn c.record-in-Ok-Last.ensures
+    i.limit p turn c.record-in-Ok-Last.ensures.current
     (subst (λ j. Told c.close_with.result (ended j (end_value end) (runs j (going [] p.kept) (r ∷ [])))
     (contents c.records.out) (contents c.close_with.new.out)) i.same (c.close_with.ensures.told p.kept p.stands))
 
