@@ -3,11 +3,13 @@
 import os
 import pathlib
 import re
+import resource
 import shutil
 import struct
 import subprocess
 import sys
 import tempfile
+import time
 
 TOP = pathlib.Path(__file__).resolve().parent.parent
 PROGRAM = TOP / "crates/opuspack/out/opuspack"
@@ -33,14 +35,31 @@ def store(path, count):
     return body
 
 
+def most_resident(child):
+    """Greatest resident kilobytes until the child ends: what wait4 tells would begin with this script's own."""
+    most = 0
+    while child.poll() is None:
+        try:
+            status = pathlib.Path(f"/proc/{child.pid}/status").read_text()
+        except OSError:
+            break
+        found = re.search(r"VmHWM:\s+(\d+) kB", status)
+        if found:
+            most = int(found[1])
+        time.sleep(0.002)
+    return most
+
+
 def run(words, path):
     """Processor seconds and greatest resident kilobytes of one run."""
+    before = resource.getrusage(resource.RUSAGE_CHILDREN)
     with open(path, "rb") as source, open(os.devnull, "wb") as sink:
         child = subprocess.Popen([PROGRAM, *words], stdin=source, stdout=sink)
-        _, status, used = os.wait4(child.pid, 0)
-    if status != 0:
-        sys.exit(f"{' '.join(words)}: status {status}")
-    return used.ru_utime + used.ru_stime, used.ru_maxrss
+        most = most_resident(child)
+    if child.wait() != 0:
+        sys.exit(f"{' '.join(words)}: status {child.returncode}")
+    used = resource.getrusage(resource.RUSAGE_CHILDREN)
+    return used.ru_utime + used.ru_stime - before.ru_utime - before.ru_stime, most
 
 
 def instructions(words, path, folder):
