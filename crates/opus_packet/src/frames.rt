@@ -52,7 +52,7 @@ impl<'a> Iterator for Frames<'a> {
         }
         let span = self.spans[self.at];
         self.at += 1;
-        let start = span.start as usize;
+        let start = usize::from(span.start);
         Some(&self.body[start..start + usize::from(span.len)])
     }
 }

@@ -53,10 +53,10 @@ impl<'a> Packet<'a> {
         ensures size { result.size ≡ size }
     {
         let mut spans = ArrayVec::new();
-        let mut start: u32 = 0;
+        let mut start: u16 = 0;
         for len in lens {
             spans.push(Span { start, len: *len });
-            start += u32::from(*len);
+            start += *len;
         }
         Packet {
             toc,
@@ -107,7 +107,7 @@ impl<'a> Packet<'a> {
         ensures most { length result.now ≤ max_frame }
     {
         let span = self.spans[i];
-        let start = span.start as usize;
+        let start = usize::from(span.start);
         &self.body[start..start + usize::from(span.len)]
     }
 

@@ -1,6 +1,6 @@
 -- How the bytes of a head are taken one after the other.
-use Rattle.std.proofs.Common.{◌≡◌, ◌≢◌, ℕ, zero, suc, ◌+◌, ◌-◌, ◌<◌, ◌≤◌, List, [], ◌∷◌, ◌++◌, Err, Result, length, length-take, length-drop, take, drop, slice_index_or, slice_set, refl, sym, ap, subst, ◌∙◌, arith}
-use Rattle.std.proofs.lemmas.List.{length-take-le, take_more_set}
+use Rattle.std.proofs.Common.{◌≡◌, ◌≢◌, ℕ, ◌+◌, ◌-◌, ◌<◌, ◌≤◌, List, [], ◌++◌, Err, Result, length, length-append, length-take, length-drop, take, drop, take-append-drop, refl, sym, ap, ◌∙◌, arith}
+use Rattle.std.proofs.lemmas.List.{length-take-le, take-take}
 use Rattle.std.specs.declared.option.Option.{Option}
 use Rattle.std.specs.Io.KnownBytes.{Consumes}
 use Rattle.std.proofs.KnownBytes.{Consumes-nil, Consumes-kept, Consumes-trans, prepend_known-read}
@@ -12,14 +12,14 @@ use Rattle.rec_store.specs.HeadBytes.{HeadFront, TakesHead}
 use Rattle.rec_store.specs.declared.stop.StoreFault.TheVariants.{StoreCut}
 use denote.Ref.{Bor}
 
--- the first count bytes of a head were passed
-pub record Begun (old new : ReaderState) (left left' : Option (List ℕ)) (bytes : List ℕ) (count : ℕ) : Type 0 where
-  pub consumed : Consumes (coming old left) (coming new left') bytes
-  pub passed : new.passed ≡ old.passed + count
+-- these bytes of a head were passed
+pub record Begun (old new : ReaderState) (left left' : Option (List ℕ)) (head : List ℕ) : Type 0 where
+  pub consumed : Consumes (coming old left) (coming new left') head
+  pub passed : new.passed ≡ old.passed + length head
   pub limit : new.limit ≡ old.limit
-  pub begun : 0 < count → (length new.bytes < 4096) × (new.passed ≤ new.limit)
+  pub begun : 0 < length head → (length new.bytes < 4096) × (new.passed ≤ new.limit)
 
-pub Begun-start : (k : ReaderState) (left : Option (List ℕ)) → Begun k k left left [] 0
+pub Begun-start : (k : ReaderState) (left : Option (List ℕ)) → Begun k k left left []
 Begun-start k left = record {
   consumed = Consumes-nil (coming k left);
   passed = omega arith;
@@ -28,87 +28,80 @@ Begun-start k left = record {
 }
 
 -- a look ahead leaves what was passed
-pub Begun-looked : (old mid new : ReaderState) (left left' left'' : Option (List ℕ)) (head : List ℕ) (count : ℕ)
-    → count ≤ length head → Begun old mid left left' (take count head) count → Stays mid new left' left''
-    → Passed old new left left'' (take count head)
-Begun-looked old mid new left left' left'' head count fits begun stays = record {
-  consumed = Consumes-kept (coming old left) (coming mid left') (coming new left'') (take count head) begun.consumed stays.coming;
-  passed = stays.passed ∙ begun.passed ∙ ap (λ n. old.passed + n) (sym (length-take-le count head fits));
+pub Begun-looked : (old mid new : ReaderState) (left left' left'' : Option (List ℕ)) (head : List ℕ)
+    → Begun old mid left left' head → Stays mid new left' left''
+    → Passed old new left left'' head
+Begun-looked old mid new left left' left'' head begun stays = record {
+  consumed = Consumes-kept (coming old left) (coming mid left') (coming new left'') head begun.consumed stays.coming;
+  passed = stays.passed ∙ begun.passed;
   limit = stays.limit ∙ begun.limit;
   in_limit = stays.in_limit;
 }
 
 -- a look that stops before the head is whole
-pub Begun-stopped : (stop : InStop) (old mid new : ReaderState) (left left' left'' : Option (List ℕ)) (head : List ℕ) (count : ℕ)
-    (result : Result (Bor (List ℕ)) InStop) → result ≡ Err stop → length head ≡ 8 → count < 8
-    → Begun old mid left left' (take count head) count → Looked mid new left' left'' result
+pub Begun-stopped : (stop : InStop) (old mid new : ReaderState) (left left' left'' : Option (List ℕ)) (head : List ℕ)
+    (result : Result (Bor (List ℕ)) InStop) → result ≡ Err stop → length head < 8
+    → Begun old mid left left' head → Looked mid new left' left'' result
     → TakesHead old new left left'' head (Err stop)
-Begun-stopped Read old mid new left left' left'' head count result is size short begun looked = record {
+Begun-stopped Read old mid new left left' left'' head result is short begun looked = record {
   part = record {
-    bytes = take count head;
-    passed = Begun-looked old mid new left left' left'' head count (omega arith) begun looked.stays;
-    short = omega (arith, length-take-le count head (omega arith));
+    bytes = head;
+    passed = Begun-looked old mid new left left' left'' head begun looked.stays;
+    short = short;
   };
   kept = looked.fault is;
 }
-Begun-stopped Limit old mid new left left' left'' head count result is size short begun looked = record {
+Begun-stopped Limit old mid new left left' left'' head result is short begun looked = record {
   part = record {
-    bytes = take count head;
-    passed = Begun-looked old mid new left left' left'' head count (omega arith) begun looked.stays;
-    short = omega (arith, length-take-le count head (omega arith));
+    bytes = head;
+    passed = Begun-looked old mid new left left' left'' head begun looked.stays;
+    short = short;
   };
   past = record { all = (looked.past is).0; more = (looked.past is).1 };
 }
 
--- the first byte that is shown comes next
-first_shown : (n : ℕ) (xs shown : List ℕ) → shown ≡ take n xs → 1 ≤ length shown
-    → xs ≡ (slice_index_or shown 0 0 ∷ []) ++ drop 1 xs
-first_shown n [] shown is some = absurd (omega (arith, ap length is, length-take {A = ℕ} n []))
-first_shown zero (x ∷ xs) shown is some = absurd (omega (arith, ap length is))
-first_shown (suc n) (x ∷ xs) shown is some = ap (λ b. b ∷ xs) (sym (ap (λ l. slice_index_or l 0 0) is))
+-- the first bytes of those that are shown come next
+first_shown : (n k : ℕ) (xs shown : List ℕ) → shown ≡ take k xs → n ≤ length shown
+    → xs ≡ take n shown ++ drop n xs
+first_shown n k xs shown is some =
+    let within : n ≤ k = omega (arith, ap length is, length-take k xs) in
+    sym (take-append-drop n xs) ∙ ap (λ l. l ++ drop n xs) (sym (ap (take n) is ∙ take-take n k xs within))
 
--- one more byte of the head is passed
-pub Begun-turn : (old mid look new : ReaderState) (left left' left'' : Option (List ℕ)) (head shown : List ℕ) (count : ℕ)
-    → length head ≡ 8 → count < 8 → Begun old mid left left' (take count head) count → Stays mid look left' left''
-    → shown ≡ take (look.limit - look.passed) look.bytes → 1 ≤ length shown
-    → new.bytes ≡ drop 1 look.bytes → new.passed ≡ look.passed + 1 → new.limit ≡ look.limit → new.passed ≤ new.limit
-    → Begun old new left left'' (take (count + 1) (slice_set head count (slice_index_or shown 0 0))) (count + 1)
-Begun-turn old mid look new left left' left'' head shown count size short begun stays is some rest passed limit in_limit =
-    let byte = slice_index_or shown 0 0 in
-    let front : look.bytes ≡ (byte ∷ []) ++ new.bytes =
-    first_shown (look.limit - look.passed) look.bytes shown is some ∙ ap (λ l. (byte ∷ []) ++ l) (sym rest) in
-    let longer : take (count + 1) (slice_set head count byte) ≡ take count head ++ byte ∷ [] = take_more_set head count byte (omega arith) in
-    let next = (prepend_known-read (coming mid left') left'' look.bytes new.bytes (byte ∷ []) ⊥ stays.coming front (λ no. absurd no)).0 in
-    let moved = Consumes-trans (coming old left) (coming mid left') (coming new left'') (take count head) (byte ∷ []) begun.consumed next in
+-- some more bytes of the head are passed
+pub Begun-turn : (old mid look new : ReaderState) (left left' left'' : Option (List ℕ)) (head shown : List ℕ) (n : ℕ)
+    → Begun old mid left left' head → Stays mid look left' left''
+    → shown ≡ take (look.limit - look.passed) look.bytes → 1 ≤ n → n ≤ length shown
+    → new.bytes ≡ drop n look.bytes → new.passed ≡ look.passed + n → new.limit ≡ look.limit → new.passed ≤ new.limit
+    → Begun old new left left'' (head ++ take n shown)
+Begun-turn old mid look new left left' left'' head shown n begun stays is some within rest passed limit in_limit =
+    let front : look.bytes ≡ take n shown ++ new.bytes =
+    first_shown n (look.limit - look.passed) look.bytes shown is within ∙ ap (λ l. take n shown ++ l) (sym rest) in
+    let size : length (head ++ take n shown) ≡ length head + n = length-append head (take n shown) ∙ ap (λ k. length head + k) (length-take-le n shown within) in
+    let next = (prepend_known-read (coming mid left') left'' look.bytes new.bytes (take n shown) ⊥ stays.coming front (λ no. absurd no)).0 in
     record {
-      consumed = subst (Consumes (coming old left) (coming new left'')) (sym longer) moved;
-      passed = omega (arith, begun.passed, stays.passed);
+      consumed = Consumes-trans (coming old left) (coming mid left') (coming new left'') head (take n shown) begun.consumed next;
+      passed = omega (arith, begun.passed, stays.passed, size);
       limit = limit ∙ stays.limit ∙ begun.limit;
-      begun = λ _. (omega (arith, ap length front, stays.in_buffer), in_limit);
+      begun = λ _. (omega (arith, ap length rest, length-drop n look.bytes, ap length is, length-take (look.limit - look.passed) look.bytes, stays.in_buffer), in_limit);
     }
 
 -- bytes that the reader keeps are passed without a read
-pub kept-turn : (old mid look new : ReaderState) (left' left'' : Option (List ℕ)) (count : ℕ)
-    → 8 ≤ length old.bytes → count < 8 → length mid.bytes + count ≡ length old.bytes → Stays mid look left' left''
-    → new.bytes ≡ drop 1 look.bytes → (mid.bytes ≢ []) × (length new.bytes + (count + 1) ≡ length old.bytes)
-kept-turn old mid look new left' left'' count enough short size stays rest =
+pub kept-turn : (old mid look new : ReaderState) (left' left'' : Option (List ℕ)) (head : List ℕ) (n : ℕ)
+    → 8 ≤ length old.bytes → length head < 8 → length mid.bytes + length head ≡ length old.bytes → Stays mid look left' left''
+    → n ≤ length look.bytes → new.bytes ≡ drop n look.bytes
+    → (mid.bytes ≢ []) × (length new.bytes + (length head + n) ≡ length old.bytes)
+kept-turn old mid look new left' left'' head n enough short size stays within rest =
     let some : mid.bytes ≢ [] = λ none. omega (arith, ap length none) in
     let same : length look.bytes ≡ length mid.bytes = ap (λ k. length k.bytes) (stays.kept some) in
-    (some, omega (arith, ap length rest, length-drop 1 look.bytes))
+    (some, omega (arith, ap length rest, length-drop n look.bytes))
 
 -- the input ended inside the head
-pub HeadCut-front : (old new : ReaderState) (left left' : Option (List ℕ)) (head : List ℕ) (count place : ℕ)
-    → HeadFront old new left left' head count → 0 < count → count < 8 → place ≡ new.passed
+pub HeadCut-front : (old new : ReaderState) (left left' : Option (List ℕ)) (head : List ℕ) (place : ℕ)
+    → HeadFront old new left left' head → 0 < length head → length head < 8 → place ≡ new.passed
     → HeadCut old new left left' (StoreCut place)
-HeadCut-front old new left left' head count place front some short is =
-    let size : length (take count head) ≡ count = length-take-le count head (omega (arith, front.size)) in
-    record {
-      part = record {
-        bytes = take count head;
-        passed = front.passed;
-        short = omega arith;
-      };
-      some = omega arith;
-      end = front.end short;
-      place = ap StoreCut is;
-    }
+HeadCut-front old new left left' head place front some short is = record {
+  part = record { bytes = head; passed = front.passed; short = short };
+  some = some;
+  end = front.end short;
+  place = ap StoreCut is;
+}

@@ -9,6 +9,7 @@ ghost use Rattle.rec_store.specs.DemoReader.{DemoState, DemoNext, StoreCause, le
 ghost use Rattle.rec_store.specs.HeadBytes.{TakesHead};
 
 use crate::{StoreFault, StoreStop};
+use arrayvec::ArrayVec;
 use byteorder::{BigEndian, ByteOrder};
 use opus_io::{InStop, Reader, Source};
 use std::marker::Model;
@@ -139,41 +140,46 @@ fn read_head<S: Source>(input: &mut Reader, source: &mut S) -> Result<Option<Dem
         → source.new ≡ source.old }
     ensures cause { StoreCause (S.faults source.old) (S.faults source.new) result }
 {
-    let mut head = [0; 8];
-    match take_head(input, source, &mut head) {
-        Ok(0) => Ok(None),
-        Ok(8) => Ok(Some(head_of(&head))),
-        Ok(_) => Err(StoreStop::Fault(StoreFault::StoreCut(input.passed()))),
-        Err(InStop::Read) => Err(StoreStop::Read),
-        Err(InStop::Limit) => Err(StoreStop::Limit),
+    let mut head = ArrayVec::new();
+    if let Err(stop) = take_head(input, source, &mut head) {
+        return Err(match stop {
+            InStop::Read => StoreStop::Read,
+            InStop::Limit => StoreStop::Limit,
+        });
+    }
+    match head.len() {
+        0 => Ok(None),
+        8 => Ok(Some(head_of(head.as_slice()))),
+        _ => Err(StoreStop::Fault(StoreFault::StoreCut(input.passed()))),
     }
 }
 
-// Fills `head` with the bytes that come next, and tells how many there are.
+// Takes the bytes that come next, eight or as many as there are.
 fn take_head<S: Source>(
     input: &mut Reader,
     source: &mut S,
-    head: &mut [u8],
-) -> Result<usize, InStop>
-    requires { length head.old ≡ 8 }
+    head: &mut ArrayVec<u8, 8>,
+) -> Result<(), InStop>
+    requires { head.old.items ≡ [] }
     ensures answer { TakesHead input.old input.new (S.left source.old) (S.left source.new)
-        head.new result }
+        head.new.items result }
     ensures untouched { 8 ≤ length input.old.bytes → 8 ≤ input.old.limit - input.old.passed
         → source.new ≡ source.old }
     ensures cause { LookCause (S.faults source.old) (S.faults source.new) result }
 {
-    'bytes: for count in 0..head.len() {
+    'bytes: while head.len() < 8 {
         let shown = match input.ahead(source) {
             Ok(shown) => shown,
             Err(stop) => return Err(stop),
         };
-        let [byte, ..] = shown else {
-            return Ok(count);
-        };
-        head[count] = *byte;
-        input.pass(1);
+        if shown.is_empty() {
+            return Ok(());
+        }
+        let count = shown.len().min(8 - head.len());
+        head.try_extend_from_slice(&shown[..count]).unwrap();
+        input.pass(count);
     }
-    Ok(head.len())
+    Ok(())
 }
 
 // The head that eight bytes spell.

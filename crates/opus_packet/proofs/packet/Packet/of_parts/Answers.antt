@@ -10,12 +10,12 @@ pub overflow_add-start : goal.overflow_add-start
 overflow_add-start c =
     let lens = c.args.lens.now in
     let i = c.loop-len.len-index in
-    omega (arith, c.from-start.ensures, c.loop-len.invariant.start_is, sum_by_more_le (λ (x : ℕ). x) lens i 0 c.loop-len-test.true, sum_by-le (λ (x : ℕ). x) max_frame lens c.requires.each)
+    omega (arith, c.requires.most, c.loop-len.invariant.start_is, sum_by_more_le (λ (x : ℕ). x) lens i 0 c.loop-len-test.true, sum_by-le (λ (x : ℕ). x) max_frame lens c.requires.each)
 
 pub loop-len-preserved : goal.loop-len-preserved
 loop-len-preserved c =
     let l = c.loop-len in
-    rw (c.push.ensures.items, c.from-start.ensures) (SpansOf-more c.args.body.now c.args.lens.now l.len-index l.start _ l.spans.items c.loop-len-test.true refl c.requires.each (omega (arith, c.requires.whole)) l.invariant)
+    rw c.push.ensures.items (SpansOf-more c.args.body.now c.args.lens.now l.len-index l.start _ l.spans.items c.loop-len-test.true refl c.requires.each (omega (arith, c.requires.whole)) l.invariant)
 
 pub invariant_of-result : goal.invariant_of-result
 invariant_of-result c =
