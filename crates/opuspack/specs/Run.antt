@@ -9,12 +9,7 @@ use Rattle.opuspack.specs.declared.finish.Finish.{Finish}
 use Rattle.opuspack.specs.declared.finish.Finish.TheVariants.{Usage, Ended}
 use Rattle.std.specs.declared.option.Option.{Option}
 
--- the source and the sink as a call finds them, or leaves them
-pub record Outside (S O : Type 0) : Type 0 where
-  pub source : S
-  pub out : O
-
--- what of them a clause sees
+-- what a clause sees of the source and the sink
 pub record Seen : Type 0 where
   pub left : Option (List ℕ)
   pub reads : ℕ
