@@ -16,17 +16,31 @@ PROGRAM = TOP / "crates/opuspack/out/opuspack"
 JOBS = [["norm", "--form", "demo"], ["check", "--form", "demo"]]
 
 
-def payloads(count):
-    """Single-frame packets of 180 to 220 bytes: config 31, stereo, code 0."""
-    for k in range(count):
-        size = 180 + k * 7 % 41
-        yield b"\xfc" + bytes((k + t) % 256 for t in range(size - 1))
+def single(k):
+    """A packet of 180 to 220 bytes with one frame: config 31, stereo, code 0."""
+    size = 180 + k * 7 % 41
+    return b"\xfc" + bytes((k + t) % 256 for t in range(size - 1))
 
 
-def store(path, count):
+def short(k):
+    """A packet of 5 to 60 bytes with one frame."""
+    size = 5 + k * 7 % 56
+    return b"\xfc" + bytes((k + t) % 256 for t in range(size - 1))
+
+
+def spelled(k):
+    """A packet of 48 frames of 2 to 60 bytes with spelled lengths: config 28 (2.5 ms), code 3."""
+    sizes = [2 + (k + 11 * n) % 59 for n in range(48)]
+    return bytes([0xe3, 0x80 | 48, *sizes[:-1]]) + bytes(t % 256 for t in range(sum(sizes)))
+
+
+STORES = {"180 to 220 bytes": single, "5 to 60 bytes": short, "48 spelled frames": spelled}
+
+
+def store(path, count, payload):
     """Writes a store with so many records, and answers the payload bytes."""
     body = 0
-    chunk = [struct.pack(">II", len(p), k) + p for k, p in enumerate(payloads(min(count, 4100)))]
+    chunk = [struct.pack(">II", len(p), k) + p for k, p in enumerate(map(payload, range(min(count, 4100))))]
     with open(path, "wb") as file:
         for k in range(count):
             record = chunk[k % len(chunk)]
@@ -72,21 +86,28 @@ def instructions(words, path, folder):
     return int(re.search(r"Collected : (\d+)", done.stderr)[1])
 
 
+def costs(words, payload, folder):
+    """Instructions a packet and a payload byte: what a longer store takes more than a short one."""
+    few, many = pathlib.Path(folder, "few"), pathlib.Path(folder, "many")
+    body = store(many, 2_500, payload) - store(few, 500, payload)
+    more = instructions(words, many, folder) - instructions(words, few, folder)
+    return more / 2_000, more / body
+
+
 def main():
     subprocess.run([TOP / "opuspack", "norm", "--form", "demo"], stdin=subprocess.DEVNULL, check=True)
     with tempfile.TemporaryDirectory() as folder:
-        large, small, none = (pathlib.Path(folder, name) for name in ("large", "small", "none"))
-        store(large, 320_000)
-        few = store(none, 500)
-        many = store(small, 4_500)
+        large = pathlib.Path(folder, "large")
+        store(large, 320_000, single)
         for words in JOBS:
             seconds, resident = run(words, large)
             rate = large.stat().st_size / seconds / 1e6
-            line = f"{' '.join(words)}: {rate:.0f} MB/s of processor time, {resident / 1024:.1f} MB resident"
-            if shutil.which("valgrind"):
-                more = instructions(words, small, folder) - instructions(words, none, folder)
-                line += f", {more / (many - few):.2f} instructions per payload byte"
-            print(line)
+            print(f"{' '.join(words)}: {rate:.0f} MB/s of processor time, {resident / 1024:.1f} MB resident")
+            if not shutil.which("valgrind"):
+                continue
+            for name, payload in STORES.items():
+                packet, byte = costs(words, payload, folder)
+                print(f"  {name}: {packet:.0f} instructions a packet, {byte:.2f} a payload byte")
 
 
 main()

@@ -2,7 +2,7 @@
 use Rattle.std.proofs.Common.{◌≡◌, ◌↔◌, ℕ, ◌+◌, ◌-◌, ◌^◌, ◌<◌, ◌≤◌, List, [], ◌∷◌, ◌++◌, length, map, flat_map, inl, inr, ⊎_elim, refl, sym, ap, ◌∙◌, subst, append-nil, length-append, arith}
 use Rattle.std.specs.List.{AllByRecursion, concat}
 use Rattle.opus_packet.specs.Value.{PacketValue, IsPacketValue}
-use Rattle.opus_packet.specs.Read.{PacketRead}
+use Rattle.job_meaning.specs.PacketRead.{PacketRead}
 use Rattle.opus_packet.specs.SelfGrammar.{self_header_bytes, IsSelfDelimited}
 use Rattle.opus_packet.specs.Canonical.{canonical_shape, canonical, canonical_self_delimited}
 use Rattle.opus_packet.proofs.CanonicalLemmas.{canonical-is_packet}

@@ -86,8 +86,8 @@ packet_by : (bs : List ℕ) → AreBytes bs → (r : HeaderRead) → header_read
     → IsSomePacket bs ⊎ (IsSomePacket bs → ⊥)
 packet_by bs are (whole h) read = packet_of_size bs are h read (find_size (size_with h) (length bs) max_frame)
 packet_by bs are partial read = inr (λ p. no_header bs p.0 p.1 partial read whole≢partial p.2)
-packet_by bs are (refused place) read =
-    inr (λ p. no_header bs p.0 p.1 (refused place) read (whole≢refused place) p.2)
+packet_by bs are (refused rule place) read =
+    inr (λ p. no_header bs p.0 p.1 (refused rule place) read (whole≢refused rule place) p.2)
 
 pub packet_or_none : (bs : List ℕ) → AreBytes bs → IsSomePacket bs ⊎ (IsSomePacket bs → ⊥)
 packet_or_none bs are = packet_by bs are (header_read bs) refl
@@ -185,8 +185,8 @@ self_record_by index at x are (sized h n) read =
 self_record_by index at x are unsized read = inr (λ v shape used begins. (
     let said : sized _ _ ≡ unsized = sym (begins_only v shape used x begins).read ∙ read in cc
     ))
-self_record_by index at x are (never place) read = inr (λ v shape used begins. (
-    let said : sized _ _ ≡ never place = sym (begins_only v shape used x begins).read ∙ read in cc
+self_record_by index at x are (never rule place) read = inr (λ v shape used begins. (
+    let said : sized _ _ ≡ never rule place = sym (begins_only v shape used x begins).read ∙ read in cc
     ))
 
 pub record_or_none : (form : Form) (index at : ℕ) (x : List ℕ) → AreBytes x

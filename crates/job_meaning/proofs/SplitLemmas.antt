@@ -4,7 +4,7 @@ use Rattle.rec_store.specs.DemoStore.{demo_record}
 use Rattle.rec_store.proofs.DemoLemmas.{fronts_same, demo_record-front}
 use Rattle.opus_packet.specs.declared.shape.Shape.{Shape}
 use Rattle.opus_packet.specs.Value.{PacketValue}
-use Rattle.opus_packet.specs.Read.{PacketRead}
+use Rattle.job_meaning.specs.PacketRead.{PacketRead}
 use Rattle.opus_packet.specs.SelfGrammar.{SpellsSelf, BeginsWithSelf}
 use Rattle.opus_packet.proofs.GrammarLemmas.{IsPacket-unique}
 use Rattle.opus_self.proofs.SelfLemmas.{IsSelfDelimited-unique}

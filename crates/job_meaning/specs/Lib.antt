@@ -1,3 +1,4 @@
+pub mod PacketRead
 pub mod Refusal
 pub mod Records
 pub mod Job

@@ -1,7 +1,7 @@
 -- What a job is handed: records of the input, each read.
 use Rattle.std.specs.Prelude.{ℕ, ◌+◌}
 use Rattle.opus_packet.specs.declared.fault.Fault.{Fault}
-use Rattle.opus_packet.specs.Read.{PacketRead}
+use Rattle.job_meaning.specs.PacketRead.{PacketRead}
 use Rattle.job_meaning.specs.Refusal.{Refusal, fault_text}
 
 -- a record holds a packet; or it is lost; or its bytes are no packet

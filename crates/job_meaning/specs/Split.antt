@@ -5,7 +5,7 @@ use Rattle.rec_store.specs.DemoStore.{demo_record, IsDemoRecord}
 use Rattle.opus_packet.specs.declared.fault.Rule.{Rule}
 use Rattle.opus_packet.specs.declared.fault.Rule.TheVariants.{R2, R5, PadLimit}
 use Rattle.opus_packet.specs.declared.fault.Fault.{Fault}
-use Rattle.opus_packet.specs.Read.{PacketRead}
+use Rattle.job_meaning.specs.PacketRead.{PacketRead}
 use Rattle.opus_packet.specs.PacketGrammar.{Spells, IsSomePacket}
 use Rattle.opus_packet.specs.PacketFault.{packet_fault}
 use Rattle.opus_packet.specs.SelfGrammar.{SpellsSelf, BeginsWithSelf}

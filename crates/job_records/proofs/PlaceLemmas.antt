@@ -1,5 +1,5 @@
 -- A bad record's fault stands at a place that has 64 bits: places lie within the input, and the input within its limit.
-use Rattle.std.proofs.Common.{◌≡◌, ℕ, ◌+◌, ◌-◌, ◌^◌, ◌<◌, ◌≤◌, Bool, true, false, List, [], ◌∷◌, length, take, drop, refl, sym, ap, ◌∙◌, subst, arith, leb, if◌then◌else◌}
+use Rattle.std.proofs.Common.{◌≡◌, ℕ, ◌^◌, ◌<◌, ◌≤◌, Bool, true, false, List, [], ◌∷◌, length, drop, refl, sym, subst, arith, leb, if◌then◌else◌}
 use Rattle.std.proofs.lemmas.Bool.{leb-false}
 use Rattle.opus_flen.specs.declared.frame_length.LenRead.{LenRead}
 use Rattle.opus_flen.specs.declared.frame_length.LenRead.TheVariants.{Len, Cut}
@@ -9,9 +9,9 @@ use Rattle.opus_packet.specs.Header.{Header, header_bytes}
 use Rattle.opus_packet.specs.HeaderRead.{HeaderRead, whole, partial, refused, header_read}
 use Rattle.opus_packet.specs.PacketPrefix.{most_bytes}
 use Rattle.opus_packet.specs.PacketFault.{packet_fault, fault_by, fault, rule_of_part}
-use Rattle.opus_packet.specs.SelfPrefix.{self_delimited_fault, self_fault_by, after_header, with_last, self_header_read}
+use Rattle.opus_packet.specs.SelfPrefix.{self_delimited_fault, self_fault_by, after_header, with_last}
 use Rattle.opus_packet.specs.declared.fault.Rule.TheVariants.{R2}
-use Rattle.job_meaning.specs.Records.{Event, bad}
+use Rattle.job_meaning.specs.Records.{bad}
 use Rattle.job_meaning.specs.Split.{EventOf, StoreEventOf}
 use Rattle.job_records.specs.declared.record.Event as held
 use Rattle.job_records.specs.declared.record.Event.TheVariants.{Packet, Lost, Bad}
@@ -29,7 +29,7 @@ fault_by-place bs (whole h) is =
     chosen (leb (length bs) (most_bytes h)) (fault (rule_of_part bs) (length bs)) (fault R2 (most_bytes h)) (length bs) (omega arith)
     (λ long. omega (arith, leb-false (length bs) (most_bytes h) long))
 fault_by-place bs partial is = omega arith
-fault_by-place bs (refused place) is = omega (arith, (header_read-refused_at bs place is).within)
+fault_by-place bs (refused rule place) is = omega (arith, (header_read-refused_at bs rule place is).within)
 
 pub packet_fault-place : (bs : List ℕ) → (packet_fault bs).place ≤ length bs
 packet_fault-place bs = fault_by-place bs (header_read bs) refl
@@ -41,7 +41,7 @@ last-place h Cut size = omega arith
 self_by-place : (bs : List ℕ) (said : HeaderRead) → header_read bs ≡ said → (self_fault_by (after_header bs said) (length bs)).place ≤ length bs
 self_by-place bs (whole h) is = last-place h (length_read (drop (length (header_bytes h)) bs)) (length bs)
 self_by-place bs partial is = omega arith
-self_by-place bs (refused place) is = omega (arith, (header_read-refused_at bs place is).within)
+self_by-place bs (refused rule place) is = omega (arith, (header_read-refused_at bs rule place is).within)
 
 pub self_fault-place : (bs : List ℕ) → (self_delimited_fault bs).place ≤ length bs
 self_fault-place bs = self_by-place bs (header_read bs) refl

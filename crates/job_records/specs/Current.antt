@@ -3,7 +3,7 @@ use Rattle.std.specs.Prelude.{◌≡◌, ℕ, List, length}
 use Rattle.opus_packet.specs.PacketFault.{packet_fault}
 use Rattle.opus_packet.specs.SelfPrefix.{self_delimited_fault}
 use Rattle.opus_packet.specs.SelfGrammar.{SpellsSelf}
-use Rattle.opus_packet.specs.Read.{PacketRead}
+use Rattle.job_meaning.specs.PacketRead.{PacketRead}
 use Rattle.job_meaning.specs.Records.{Event, packet, bad, Rec}
 use Rattle.job_meaning.specs.Split.{EventOf, StoreEventOf, IsPlaced}
 use Rattle.job_records.specs.State.{Kind, none, raw, store, part, self, bad_self, Current}

@@ -3,10 +3,11 @@ use Rattle.std.specs.Prelude.{ℕ, ◌+◌, ◌^◌, ◌<◌}
 use Rattle.job_records.specs.declared.record.Event as held
 use Rattle.job_records.specs.declared.record.Event.TheVariants.{Packet, Lost, Bad}
 use Rattle.job_records.specs.declared.record.Record.{Record}
+use Rattle.job_meaning.specs.PacketRead.{seen}
 use Rattle.job_meaning.specs.Records.{Event, packet, lost, bad, Rec}
 
 abbrev pub event_value : held.Event → Event
-event_value (Packet p) = packet p
+event_value (Packet p) = packet (seen p)
 event_value Lost = lost
 event_value (Bad f) = bad f
 

@@ -1,2 +1,4 @@
-mod Slices
+mod StandardFacts
+pub mod Slices
+pub mod Onward
 pub mod Turns

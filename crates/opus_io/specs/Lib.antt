@@ -6,3 +6,4 @@ pub mod ToWrite
 pub mod Steady
 pub mod Reader
 pub mod Memory
+pub mod Outside

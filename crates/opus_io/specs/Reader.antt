@@ -7,19 +7,22 @@ use Rattle.opus_io.specs.declared.reader.InStop.{InStop}
 use Rattle.opus_io.specs.declared.reader.InStop.TheVariants.{Read, Limit}
 use denote.Ref.{Bor}
 
--- the bytes taken and not passed, how many were passed, and how many may be
+-- the bytes taken and not passed, how many were passed, how many may be, and those that were passed last
 pub record ReaderState : Type 0 where
   pub bytes : List ℕ
   pub passed : ℕ
   pub limit : ℕ
+  pub last : List ℕ
 
 -- what comes next: what the reader keeps, and then what the source has left
 abbrev pub coming : ReaderState → Option (List ℕ) → Option (List ℕ)
 coming k left = prepend_known k.bytes left
 
--- what every reader's fields meet: kept bytes lie in the buffer, and at most one is past the limit
-pub record Fits (room start end passed limit : ℕ) : Type 0 where
+-- what every reader's fields meet: the bytes passed last and those kept lie in the buffer, and at most one is
+-- past the limit
+pub record Fits (room start end last passed limit : ℕ) : Type 0 where
   pub size : room ≡ 4096
+  pub behind : last ≤ start
   pub ordered : start ≤ end
   pub in_buffer : end ≤ 4096
   pub in_limit : passed ≤ limit

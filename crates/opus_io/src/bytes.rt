@@ -1,3 +1,4 @@
+//! Bytes that own their memory.
 ghost use Rattle.std.specs.Prelude.{◌≡◌, ℕ, List, IfOk};
 
 use crate::NoMemory;

@@ -1,3 +1,4 @@
+//! A copy between two slices, as far as both reach.
 ghost use Rattle.std.specs.Prelude.{◌≡◌, ◌<◌, ◌≤◌, [], ◌++◌, take, drop, length};
 
 // Copies as many bytes as both have to the front of `to`, and tells how many.

@@ -1,3 +1,4 @@
+//! A reader of std as a source.
 ghost use Rattle.std.specs.Prelude.{◌≡◌, ◌+◌, ◌-◌, ◌^◌, ◌≤◌, min};
 ghost use Rattle.opus_io.specs.FromRead.{inner_reader, read_errors};
 

@@ -1,3 +1,4 @@
+//! A source and a sink in memory that fail where they were asked to.
 ghost use Rattle.std.specs.Prelude.{◌≡◌, ◌↔◌, ◌+◌, ◌-◌, ◌^◌, ◌≤◌, ◌<◌, ℕ, List, [], ◌++◌, Some, IfOk, OnOk, OnErr, IsErr, IsErrOf, IsTrue, Contains, min, take, drop, length, vec_len};
 ghost use Rattle.std.specs.Io.{ReadsAtMost, WritesAtMost};
 ghost use Rattle.std.specs.Io.KnownBytes.{ReadConsumes, WriteAppends};

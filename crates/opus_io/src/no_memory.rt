@@ -1,3 +1,4 @@
+//! Want of memory.
 use std::alloc::AllocError;
 
 /// The machine has no memory left for what was asked.

@@ -1,4 +1,5 @@
-ghost use Rattle.std.specs.Prelude.{◌≡◌, ◌≢◌, ◌+◌, ◌-◌, ◌^◌, ◌≤◌, ◌<◌, ℕ, [], IfOk, OnOk, OnErr, IsErrOf, min, length, slice_range, vec_len, drop};
+//! The reader: a source up to a limit, 4,096 bytes at a time.
+ghost use Rattle.std.specs.Prelude.{◌≡◌, ◌≢◌, ◌+◌, ◌-◌, ◌^◌, ◌≤◌, ◌<◌, ℕ, [], IfOk, OnOk, OnErr, IsErrOf, true, false, min, length, slice_range, vec_len, take, drop};
 ghost use Rattle.std.specs.Io.KnownBytes.{ReadConsumes};
 ghost use Rattle.std.specs.Io.BufRead.{Rests};
 ghost use Rattle.std.specs.Borrow.{sem};
@@ -30,6 +31,8 @@ pub struct Reader {
     // The bytes taken and not passed are `buffer[start..end]`.
     start: usize,
     end: usize,
+    // How many bytes the last call of `pass` passed, 0 after a read: these stand before `start`.
+    last: usize,
     passed: u64,
     limit: u64,
 }
@@ -41,9 +44,10 @@ impl Model for Reader {
       bytes = slice_range r.buffer.items r.start r.end;
       passed = r.passed;
       limit = r.limit;
+      last = slice_range r.buffer.items (r.start - r.last) r.start;
     } };
 
-    ghost invariant = { λ r. Fits (vec_len r.buffer) r.start r.end r.passed r.limit };
+    ghost invariant = { λ r. Fits (vec_len r.buffer) r.start r.end r.last r.passed r.limit };
 }
 
 impl Reader {
@@ -56,6 +60,7 @@ impl Reader {
         ensures bytes { IfOk result (λ r. r.bytes ≡ []) }
         ensures passed { IfOk result (λ r. r.passed ≡ 0) }
         ensures limit { IfOk result (λ r. r.limit ≡ limit) }
+        ensures last { IfOk result (λ r. r.last ≡ []) }
     {
         let mut buffer = Vec::with_capacity(alloc, BUFFER)?;
         buffer.resize(BUFFER, 0)?;
@@ -63,6 +68,7 @@ impl Reader {
             buffer,
             start: 0,
             end: 0,
+            last: 0,
             passed: 0,
             limit,
         })
@@ -90,8 +96,9 @@ impl Reader {
         Ok(&self.buffer[start..start + shown])
     }
 
-    // Where no byte is kept, reads once.
-    fn fill<S: Source>(&mut self, source: &mut S) -> Result<(), InStop>
+    /// Reads the source, once, where no byte is kept. It may find none: then the source is at its end.
+    /// It never answers `Limit`.
+    pub fn fill<S: Source>(&mut self, source: &mut S) -> Result<(), InStop>
         ensures filled { Filled self.old self.new (S.left source.old) (S.left source.new) result }
         ensures untouched { self.old.bytes ≢ [] → source.new ≡ source.old }
         ensures cause { LookCause (S.faults source.old) (S.faults source.new) result }
@@ -101,6 +108,7 @@ impl Reader {
         }
         self.start = 0;
         self.end = 0;
+        self.last = 0;
         let room = least(BUFFER, self.limit + 1 - self.passed);
         match read_buffer(source, &mut self.buffer, room) {
             Ok(count) => {
@@ -111,7 +119,33 @@ impl Reader {
         }
     }
 
-    /// Passes `n` bytes of those that `ahead` showed.
+    /// The bytes that come next and were taken and not passed, up to the limit. It never reads.
+    pub fn shown(&self) -> &[u8]
+        ensures value { result.now ≡ take (self.now.limit - self.now.passed) self.now.bytes }
+        ensures most { self.now.passed + length result.now ≤ 2 ^ 40 }
+        ensures in_limit { self.now.passed + length result.now ≤ self.now.limit }
+        ensures kept { length result.now ≤ length self.now.bytes }
+    {
+        let shown = least(self.end - self.start, self.limit - self.passed);
+        &self.buffer[self.start..self.start + shown]
+    }
+
+    /// Whether a byte was taken and not passed. Where nothing is shown, this is the byte past the limit.
+    pub fn is_filled(&self) -> bool
+        ensures filled { result ≡ true → 0 < length self.now.bytes }
+        ensures empty { result ≡ false → self.now.bytes ≡ [] }
+    {
+        self.start < self.end
+    }
+
+    /// The bytes that the last call of `pass` passed, lent until the next read. After a read there are none.
+    pub fn last(&self) -> &[u8]
+        ensures { result.now ≡ self.now.last }
+    {
+        &self.buffer[self.start - self.last..self.start]
+    }
+
+    /// Passes `n` bytes of those that `ahead` or `shown` showed.
     pub fn pass(&mut self, n: usize)
         requires kept { n ≤ length self.old.bytes }
         requires within { n ≤ self.old.limit - self.old.passed }
@@ -119,8 +153,10 @@ impl Reader {
         ensures passed { self.new.passed ≡ self.old.passed + n }
         ensures limit { self.new.limit ≡ self.old.limit }
         ensures in_limit { self.new.passed ≤ self.new.limit }
+        ensures last { self.new.last ≡ take n self.old.bytes }
     {
         self.start += n;
+        self.last = n;
         self.passed += n as u64;
     }
 

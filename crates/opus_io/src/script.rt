@@ -1,3 +1,4 @@
+//! Which calls of a source or sink in memory are to fail.
 ghost use Rattle.std.specs.Prelude.{◌≡◌, ◌↔◌, ◌+◌, ◌-◌, ◌^◌, IfOk, IsTrue, Contains, min, if◌then◌else◌};
 
 use crate::NoMemory;

@@ -1,3 +1,4 @@
+//! A source and a sink in memory that never fail.
 ghost use Rattle.std.specs.Prelude.{◌≡◌, ◌+◌, ◌-◌, ◌^◌, ◌≤◌, ◌<◌, ℕ, List, [], ◌++◌, Some, IfOk, min, take, drop, length, vec_len};
 ghost use Rattle.opus_io.specs.Steady.{Held};
 

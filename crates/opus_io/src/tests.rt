@@ -1,10 +1,11 @@
+//! What std and the memory at hand do, which no clause says.
 use crate::{
     Bytes, Failed, FromRead, InStop, MemorySink, MemorySource, Reader, Sink, SinkStop, Source,
     SteadySink, SteadySource, ToWrite, write_all,
 };
 use std::alloc::{AllocError, Global};
 use std::io;
-use std::io::{Cursor, Read};
+use std::io::{Cursor, Read, Write};
 use std::test::Fail;
 
 // Gives two bytes, then an error, then the end.
@@ -25,6 +26,27 @@ impl Read for Faulty {
             2 => Err(io::ErrorKind::Other.into()),
             _ => Ok(0),
         }
+    }
+}
+
+// Errs at the first write, takes nothing at the second, and counts the writes.
+#[derive(Drop)]
+struct Fussy {
+    calls: u8,
+}
+
+impl Write for Fussy {
+    fn write(&mut self, buf: &[u8]) -> io::Result<usize> {
+        self.calls = self.calls.saturating_add(1);
+        match self.calls {
+            1 => Err(io::ErrorKind::Other.into()),
+            2 => Ok(0),
+            _ => Ok(buf.len()),
+        }
+    }
+
+    fn flush(&mut self) -> io::Result<()> {
+        Ok(())
     }
 }
 
@@ -113,5 +135,47 @@ fn the_byte_past_the_limit_is_never_shown(rt: HostRuntime) -> Result<(), Fail> {
         assert_eq!(rt; write_all(&mut sink, &taken), Ok(()));
         assert_eq!(rt; sink.contents(), &bytes[..shown]);
     }
+    Ok(())
+}
+
+#[test]
+fn a_stop_comes_from_one_call_of_the_object_inside(rt: HostRuntime) -> Result<(), Fail> {
+    let mut fussy = Fussy { calls: 0 };
+    let mut sink = ToWrite::new(&mut fussy);
+    for want in [Err(SinkStop::Failed), Err(SinkStop::Failed), Ok(3)] {
+        assert_eq!(rt; sink.write(b"abc"), want);
+    }
+    assert_eq!(rt; fussy.calls, 3);
+
+    let mut faulty = Faulty { calls: 0 };
+    let mut source = FromRead::new(&mut faulty);
+    let mut buf = [0; 4];
+    for want in [Ok(2), Err(Failed), Ok(0)] {
+        assert_eq!(rt; source.read(&mut buf), want);
+    }
+    assert_eq!(rt; faulty.calls, 3);
+    Ok(())
+}
+
+#[test]
+fn the_bytes_passed_last_stay_until_the_next_read(rt: HostRuntime) -> Result<(), Fail> {
+    let mut reader = Reader::new(rt.alloc(), 100)?;
+    let mut source = SteadySource::new(rt.alloc(), b"packet")?;
+    assert_eq!(rt;
+        (reader.shown().is_empty(), reader.is_filled()),
+        (true, false)
+    );
+    assert_eq!(rt; reader.fill(&mut source), Ok(()));
+    assert_eq!(rt; reader.shown(), b"packet".as_slice());
+    let first = reader.shown().len().min(2);
+    reader.pass(first);
+    let rest = reader.shown().len();
+    reader.pass(rest);
+    assert_eq!(rt; reader.last(), b"cket".as_slice());
+    assert_eq!(rt; reader.fill(&mut source), Ok(()));
+    assert_eq!(rt;
+        (reader.last().is_empty(), reader.is_filled()),
+        (true, false)
+    );
     Ok(())
 }

@@ -1,3 +1,4 @@
+//! A writer of std as a sink.
 ghost use Rattle.std.specs.Prelude.{◌≡◌, ◌+◌, ◌-◌, ◌^◌, ◌≤◌, min};
 ghost use Rattle.opus_io.specs.ToWrite.{inner_writer, write_errors};
 

@@ -21,7 +21,7 @@ all_same n (f ∷ fs) same =
     let both = and_parts (eqb (length f) n) (list_all (λ m. m == n) (map length fs)) same in
     (eqb-true (length f) n both.0, all_same n fs both.1)
 
-one_length : (f : List ℕ) (fs : List (List ℕ)) → have_one_length (map length (f ∷ fs)) ≡ true
+pub one_length : (f : List ℕ) (fs : List (List ℕ)) → have_one_length (map length (f ∷ fs)) ≡ true
     → HaveOneLength (f ∷ fs)
 one_length f fs same = (length f, (refl, all_same (length f) fs same))
 
@@ -30,7 +30,7 @@ two_frames : (f g : List ℕ) (b : Bool) → (length g == length f) ≡ b
 two_frames f g true same = (refl, refl, refl, (length f, (refl, (eqb-true (length g) (length f) same, tt))))
 two_frames f g false other = (refl, refl, refl)
 
-canonical_suits : (frames : List (List ℕ)) → 1 ≤ length frames
+pub canonical_suits : (frames : List (List ℕ)) → 1 ≤ length frames
     → Suits (canonical_shape (map length frames)) frames
 canonical_suits [] some = absurd (omega arith)
 canonical_suits (f ∷ []) some = (refl, refl, refl)

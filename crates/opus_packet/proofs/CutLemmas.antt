@@ -4,7 +4,7 @@ use Rattle.std.specs.List.{AllByRecursion, concat}
 use Rattle.std.proofs.lemmas.List.{take_more, nil_from_length}
 use Rattle.std.proofs.lemmas.List.Sums.{sum_by-cons, sum_by-append}
 use Rattle.opus_packet.specs.Value.{IsFrame, max_frame}
-use Rattle.opus_packet.specs.Spans.{cut}
+use Rattle.opus_packet.specs.Cut.{cut}
 use Rattle.opus_packet.proofs.LengthsReadLemmas.{AreLengths}
 
 pub sum-cons : (n : ℕ) (ns : List ℕ) → sum (n ∷ ns) ≡ n + sum ns

@@ -1,23 +1,15 @@
 -- What follows a header: one packet at most, by the last frame's length.
-use Rattle.std.proofs.Common.{◌≡◌, ℕ, ◌+◌, ◌-◌, ◌<◌, ◌≤◌, List, length, All, sym, ◌∙◌, subst, arith}
-use Rattle.std.proofs.lemmas.List.Elements.{All-replicate, All-push}
+use Rattle.std.proofs.Common.{◌≡◌, ℕ, ◌+◌, ◌-◌, ◌<◌, ◌≤◌, List, length, sym, ◌∙◌, subst, arith}
+use Rattle.opus_packet.specs.declared.fault.Rule.{Rule}
 use Rattle.opus_packet.specs.declared.shape.Shape.{Shape}
-use Rattle.opus_packet.specs.declared.header.Sizes as declared_sizes
-use Rattle.opus_packet.specs.declared.header.Sizes.TheVariants.{Equal, Given}
 use Rattle.opus_packet.specs.Value.{PacketValue, max_frame}
-use Rattle.opus_packet.specs.Header.{Header, header_bytes, body_size, frame_lengths, padding_data}
+use Rattle.opus_packet.specs.Header.{Header, header_bytes, body_size, padding_data}
 use Rattle.opus_packet.specs.HeaderRead.{HeaderRead, whole, partial, refused, header_read}
-use Rattle.opus_packet.specs.HeaderStands.{AreSized, sizes_value, value_at}
+use Rattle.opus_packet.specs.HeaderStands.{value_at}
 use Rattle.opus_packet.specs.PacketGrammar.{Spells, header_for}
 use Rattle.opus_packet.specs.PacketPrefix.{AreBytes}
 pub use Rattle.opus_packet.proofs.BytesLemmas.{AreBytes-from}
 use Rattle.opus_packet.proofs.GrammarLemmas.{found, only, body_size-le, same_header, IsPacket-unique}
-
-pub All-frame_lengths : (sizes : declared_sizes.Sizes) (n : ℕ) → AreSized sizes → n ≤ max_frame
-    → All (λ m. m ≤ max_frame) (frame_lengths (sizes_value sizes) n)
-All-frame_lengths (Equal count) n sized fits = All-replicate (λ m. m ≤ max_frame) count n fits
-All-frame_lengths (Given lengths) n sized fits =
-    All-push (λ m. m ≤ max_frame) lengths.items.items n sized.each fits
 
 -- what is spelled has a last frame that fits, and the size that goes with it
 pub record IsSizedAt (h : Header) (bytes : List ℕ) (n : ℕ) : Type 0 where
@@ -66,5 +58,5 @@ no_header bytes v s said is none spelled =
 pub whole≢partial : (h : Header) → whole h ≡ partial → ⊥
 whole≢partial h e = cc
 
-pub whole≢refused : (place : ℕ) (h : Header) → whole h ≡ refused place → ⊥
-whole≢refused place h e = cc
+pub whole≢refused : (rule : Rule) (place : ℕ) (h : Header) → whole h ≡ refused rule place → ⊥
+whole≢refused rule place h e = cc

@@ -1,5 +1,5 @@
 -- Small packets and faults, computed against the definitions.
-use Rattle.std.proofs.Common.{◌≡◌, ℕ, ◌<◌, false, true, List, [], ◌∷◌, length, refl, lt-ltb, arith}
+use Rattle.std.proofs.Common.{◌≡◌, ℕ, ◌<◌, inl, inr, false, true, List, [], ◌∷◌, ◌++◌, length, refl, lt-ltb, arith}
 use Rattle.std.proofs.lemmas.Bool.{lt-leb}
 use Rattle.opus_toc.specs.Configuration.{samples_of, row_of}
 use Rattle.opus_flen.specs.PaddingLength.{most_full, full_bytes}
@@ -9,7 +9,10 @@ use Rattle.opus_packet.specs.Header.{header_bytes, equal}
 use Rattle.opus_packet.specs.HeaderRead.{whole, shape_of, header_of, header_read}
 use Rattle.opus_packet.specs.PacketGrammar.{IsPacket}
 use Rattle.opus_packet.specs.PacketFault.{fault, packet_fault}
-use Rattle.opus_packet.specs.Canonical.{canonical}
+use Rattle.opus_packet.specs.Canonical.{canonical, pad_total, kept_form, kept_self_delimited}
+use Rattle.opus_packet.specs.Spelled.{lengths_in}
+use Rattle.opus_packet.specs.Tail.{tail_of, kept, counted}
+use Rattle.opus_packet.specs.Refusals.{HasBadCount}
 
 -- each rule, at the end of bytes that can go on or at the byte that can't stand
 
@@ -189,3 +192,67 @@ two_unequal_frames-canonical :
     ≡ 0x0A ∷ 0x00 ∷ 0xAA ∷ []
 unfolding canonical header_bytes
 two_unequal_frames-canonical = refl
+
+-- lengths, one after another: of one byte, and of two
+
+three_lengths : lengths_in 3 (0x05 ∷ 0xFC ∷ 0x00 ∷ 0xFF ∷ 0xFF ∷ []) ≡ 5 ∷ 252 ∷ 1275 ∷ []
+three_lengths = refl
+
+-- padding totals with the fewest length bytes: the last byte stands for 254 padding bytes where it can
+
+pad_total-1 : pad_total 1 ≡ 2
+pad_total-1 = refl
+
+pad_total-254 : pad_total 254 ≡ 255
+pad_total-254 = refl
+
+pad_total-255 : pad_total 255 ≡ 257
+pad_total-255 = refl
+
+pad_total-508 : pad_total 508 ≡ 510
+pad_total-508 = refl
+
+pad_total-65535 : pad_total 65535 ≡ 65794
+pad_total-65535 = refl
+
+-- padding bytes are kept up to 65,535
+
+most_kept : (tail : List ℕ) → length tail ≡ 65535 → tail_of tail ≡ kept tail
+most_kept tail size = rw size refl
+
+more_counted : (tail : List ℕ) → length tail ≡ 65536 → tail_of tail ≡ counted 65536
+more_counted tail size = rw size refl
+
+-- kept forms, in both framings
+
+padded_frames-kept : kept_form padded_frames (0x11 ∷ 0x22 ∷ [])
+    ≡ 0xFB ∷ 0x42 ∷ 0x02 ∷ 0xAA ∷ 0xBB ∷ 0x11 ∷ 0x22 ∷ []
+unfolding padded_frames kept_form header_bytes
+padded_frames-kept = refl
+
+padded_frames-kept_nothing : kept_form padded_frames [] ≡ 0xF9 ∷ 0xAA ∷ 0xBB ∷ []
+unfolding padded_frames kept_form header_bytes
+padded_frames-kept_nothing = refl
+
+one_frame : PacketValue
+one_frame = record { config = 31; stereo = false; frames = (0xAA ∷ 0xBB ∷ []) ∷ [] }
+
+one_frame-kept_self : kept_self_delimited one_frame (0x00 ∷ [])
+    ≡ 0xFB ∷ 0x41 ∷ 0x01 ∷ 0x02 ∷ 0xAA ∷ 0xBB ∷ 0x00 ∷ []
+unfolding one_frame kept_self_delimited header_bytes
+one_frame-kept_self = refl
+
+-- 254 padding bytes, whose length may be spelled FF 00 too
+one_frame-kept_254 : (tail : List ℕ) → length tail ≡ 254
+    → kept_form one_frame tail ≡ (0xFB ∷ 0x41 ∷ 0xFE ∷ 0xAA ∷ 0xBB ∷ []) ++ tail
+unfolding one_frame kept_form header_bytes
+one_frame-kept_254 tail size = rw size refl
+
+-- counts that no packet has: none, and seven frames of 20 ms
+
+count_of_none : HasBadCount (0xFB ∷ 0x00 ∷ [])
+count_of_none = (refl, inl refl)
+
+count_too_long : HasBadCount (0xFB ∷ 0x07 ∷ [])
+unfolding samples_of row_of
+count_too_long = (refl, inr (omega arith))

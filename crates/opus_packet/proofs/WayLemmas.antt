@@ -4,6 +4,7 @@ use Rattle.opus_toc.specs.Toc.{code_of}
 use Rattle.opus_flen.specs.declared.padding_length.PadRead.{PadRead}
 use Rattle.opus_flen.specs.declared.padding_length.PadRead.TheVariants.{Pad, Cut, Limit}
 use Rattle.opus_flen.specs.PaddingLength.{padding_read}
+use Rattle.opus_packet.specs.declared.fault.Rule.TheVariants.{R5, PadLimit}
 use Rattle.opus_packet.specs.Header.{equal, given}
 use Rattle.opus_packet.specs.HeaderRead.{HeaderRead, whole, partial, refused, lengths_read, shape_of, header_of, with_lengths, vbr_of, padded_of, frames_of, is_count, after_padding, with_padding, after_count, after_toc, header_read}
 
@@ -26,7 +27,7 @@ pub data AfterCount (toc count : ℕ) (bytes : List ℕ) : HeaderRead → Type 0
       → AfterCount toc count bytes r
   padding_cut : padded_of count ≡ true → padding_read bytes ≡ Cut → AfterCount toc count bytes partial
   padding_limit : {place : ℕ} → padded_of count ≡ true → padding_read bytes ≡ Limit place
-      → AfterCount toc count bytes (refused (place + 2))
+      → AfterCount toc count bytes (refused PadLimit (place + 2))
 
 -- the bytes lead to this answer
 pub data Way : List ℕ → HeaderRead → Type 0 where
@@ -41,7 +42,7 @@ pub data Way : List ℕ → HeaderRead → Type 0 where
       → Way (toc ∷ bytes) partial
   no_count : {toc : ℕ} → code_of toc ≡ 3 → Way (toc ∷ []) partial
   bad_count : {toc count : ℕ} {bytes : List ℕ} → code_of toc ≡ 3 → is_count toc count ≡ false
-      → Way (toc ∷ count ∷ bytes) (refused 1)
+      → Way (toc ∷ count ∷ bytes) (refused R5 1)
   counted : {toc count : ℕ} {bytes : List ℕ} {r : HeaderRead} → code_of toc ≡ 3
       → is_count toc count ≡ true → AfterCount toc count bytes r → Way (toc ∷ count ∷ bytes) r
 
@@ -92,7 +93,7 @@ after_toc_way (suc (suc (suc code))) toc [] e = no_count (omega arith)
 after_toc_way (suc (suc (suc code))) toc (count ∷ bytes) e = go (is_count toc count) refl
   where
     go : (b : Bool) → is_count toc count ≡ b
-        → Way (toc ∷ count ∷ bytes) (if b then after_count toc count bytes else refused 1)
+        → Way (toc ∷ count ∷ bytes) (if b then after_count toc count bytes else refused R5 1)
     go true ok = counted (omega arith) ok (after_count_way toc count bytes)
     go false bad = bad_count (omega arith) bad
 

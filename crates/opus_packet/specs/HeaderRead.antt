@@ -8,16 +8,18 @@ use Rattle.opus_flen.specs.FrameLength.{length_read}
 use Rattle.opus_flen.specs.declared.padding_length.PadRead.{PadRead}
 use Rattle.opus_flen.specs.declared.padding_length.PadRead.TheVariants as padding_length
 use Rattle.opus_flen.specs.PaddingLength.{padding_read}
+use Rattle.opus_packet.specs.declared.fault.Rule.{Rule}
+use Rattle.opus_packet.specs.declared.fault.Rule.TheVariants.{R5, PadLimit}
 use Rattle.opus_packet.specs.declared.shape.Shape.{Shape}
 use Rattle.opus_packet.specs.Value.{max_duration}
 use Rattle.opus_packet.specs.Header.{Header, Sizes, equal, given}
 
 -- a header stands first; or the bytes are a part of one; or no header begins as the bytes up to and with
--- the one at this place do
+-- the one at this place do, which breaks this rule
 pub data HeaderRead : Type 0 where
   whole : Header → HeaderRead
   partial : HeaderRead
-  refused : ℕ → HeaderRead
+  refused : Rule → ℕ → HeaderRead
 
 -- a length that was read, and then the others behind the bytes that it used
 abbrev pub lengths_after : LenRead → (ℕ → Option (List ℕ)) → Option (List ℕ)
@@ -73,7 +75,7 @@ abbrev pub with_padding : ℕ → ℕ → List ℕ → PadRead → HeaderRead
 with_padding toc count bytes (padding_length.Pad total used) =
     after_padding toc count total (drop used bytes)
 with_padding toc count bytes padding_length.Cut = partial
-with_padding toc count bytes (padding_length.Limit place) = refused (place + 2)
+with_padding toc count bytes (padding_length.Limit place) = refused PadLimit (place + 2)
 
 -- code 3 behind the count byte
 abbrev pub after_count : ℕ → ℕ → List ℕ → HeaderRead
@@ -89,7 +91,7 @@ after_toc (suc (suc zero)) toc bytes =
     with_lengths toc (shape_of 2 false 0) (lengths_read 1 bytes)
 after_toc (suc (suc (suc code))) toc [] = partial
 after_toc (suc (suc (suc code))) toc (count ∷ bytes) =
-    if is_count toc count then after_count toc count bytes else refused 1
+    if is_count toc count then after_count toc count bytes else refused R5 1
 
 -- what the first bytes say
 unfoldable pub header_read : List ℕ → HeaderRead

@@ -1,23 +1,23 @@
 -- What reading a header gives.
-use Rattle.std.specs.Prelude.{◌≡◌, ℕ, ◌+◌, ◌*◌, ◌<◌, ◌≤◌, ◌^◌, List, length, take, drop, sum, All, Option, Some, None}
+use Rattle.std.specs.Prelude.{◌≡◌, ℕ, ◌+◌, ◌*◌, ◌<◌, ◌≤◌, ◌^◌, List, length, take, drop, Option, Some, None}
 use Rattle.opus_toc.specs.Toc.{config_of, stereo_of, code_of}
 use Rattle.opus_toc.specs.Configuration.{samples_of}
 use Rattle.opus_packet.specs.declared.shape.Shape.{Shape}
-use Rattle.opus_packet.specs.declared.lengths.Lengths as declared_lengths
 use Rattle.opus_packet.specs.declared.header.Sizes as declared_sizes
 use Rattle.opus_packet.specs.declared.header.Sizes.TheVariants.{Equal, Given}
 use Rattle.opus_packet.specs.declared.header.Header as declared_header
 use Rattle.opus_packet.specs.declared.header.HeaderRead as declared_read
 use Rattle.opus_packet.specs.declared.header.HeaderRead.TheVariants.{Whole, Partial, Refused}
 use Rattle.opus_packet.specs.Value.{max_frame, max_duration, PacketValue}
-use Rattle.opus_packet.specs.Spans.{cut}
+use Rattle.opus_packet.specs.Cut.{cut}
+use Rattle.opus_packet.specs.Spelled.{lengths_of, AreGiven}
 use Rattle.opus_packet.specs.Header.{Header, Sizes, equal, given, header_bytes, body_size, padding_data, frame_count, frame_lengths}
 use Rattle.opus_packet.specs.HeaderRead.{HeaderRead, whole, partial, refused}
 
 -- the sizes as plain numbers
 abbrev pub sizes_value : declared_sizes.Sizes → Sizes
 sizes_value (Equal count) = equal count
-sizes_value (Given lengths) = given lengths.items.items
+sizes_value (Given spelled) = given (lengths_of spelled)
 
 -- the header as plain numbers
 abbrev pub header_value : declared_header.Header → Header
@@ -28,17 +28,10 @@ header_value h = record {
   sizes = sizes_value h.sizes;
 }
 
--- what the given lengths add up to, and that they are lengths of frames
-pub record AreGiven (lengths : declared_lengths.Lengths) : Type 0 where
-  pub sum_is : lengths.sum ≡ sum lengths.items.items
-  pub most : length lengths.items.items ≤ 47
-  pub low : lengths.sum ≤ 59925
-  pub each : All (λ n. n ≤ max_frame) lengths.items.items
-
 -- at least one frame and at most 48
 abbrev pub AreSized : declared_sizes.Sizes → Type 0
 AreSized (Equal count) = (1 ≤ count) × (count ≤ 48)
-AreSized (Given lengths) = AreGiven lengths
+AreSized (Given spelled) = AreGiven spelled
 
 -- the last frame's length, where frames and padding fill so many bytes behind the header; or no length does
 abbrev pub Fills : Sizes → ℕ → ℕ → Option ℕ → Type 0
@@ -73,12 +66,16 @@ pub record HeaderStands (h : declared_header.Header) (size : ℕ) (said : Header
 abbrev pub ReadsHeader : ℕ → declared_read.HeaderRead → HeaderRead → Type 0
 ReadsHeader size (Whole h) said = HeaderStands h size said
 ReadsHeader size Partial said = said ≡ partial
-ReadsHeader size (Refused place) said = said ≡ refused place
+ReadsHeader size (Refused fault) said = said ≡ refused fault.rule fault.place
 
--- the value that stands behind a header, where the last frame has n bytes
-abbrev pub value_at : Header → ℕ → List ℕ → PacketValue
-value_at h n bytes = record {
+-- the value of a header, where the last frame has n bytes and all frames are these bytes
+abbrev pub value_with : Header → ℕ → List ℕ → PacketValue
+value_with h n body = record {
   config = h.config;
   stereo = h.stereo;
-  frames = cut (take (body_size h.sizes n) (drop (length (header_bytes h)) bytes)) (frame_lengths h.sizes n);
+  frames = cut body (frame_lengths h.sizes n);
 }
+
+-- the value that stands behind a header
+abbrev pub value_at : Header → ℕ → List ℕ → PacketValue
+value_at h n bytes = value_with h n (take (body_size h.sizes n) (drop (length (header_bytes h)) bytes))

@@ -1,9 +1,9 @@
 -- Why bytes aren't an undelimited packet: the broken rule (RFC 6716, 3.4), and the place, which is the
 -- length of the longest front that can still become a packet. Which rule is named is this project's choice.
-use Rattle.std.specs.Prelude.{ℕ, zero, suc, nat_le, ◌==◌, if◌then◌else◌, List, [], ◌∷◌, length}
+use Rattle.std.specs.Prelude.{ℕ, zero, suc, nat_le, if◌then◌else◌, List, [], ◌∷◌, length}
 use Rattle.opus_toc.specs.Toc.{code_of}
 use Rattle.opus_packet.specs.declared.fault.Rule.{Rule}
-use Rattle.opus_packet.specs.declared.fault.Rule.TheVariants.{R1, R2, R3, R4, R5, R6, R7, PadLimit}
+use Rattle.opus_packet.specs.declared.fault.Rule.TheVariants.{R1, R2, R3, R4, R6, R7}
 use Rattle.opus_packet.specs.declared.fault.Fault.{Fault}
 use Rattle.opus_packet.specs.HeaderRead.{HeaderRead, whole, partial, refused, header_read, vbr_of}
 use Rattle.opus_packet.specs.PacketPrefix.{most_bytes}
@@ -35,7 +35,7 @@ fault_by (whole h) bytes =
     if nat_le (length bytes) (most_bytes h) then fault (rule_of_part bytes) (length bytes)
     else fault R2 (most_bytes h)
 fault_by partial bytes = fault (rule_of_part bytes) (length bytes)
-fault_by (refused place) bytes = fault (if place == 1 then R5 else PadLimit) place
+fault_by (refused rule place) bytes = fault rule place
 
 -- the fault of bytes that are no packet
 abbrev pub packet_fault : List ℕ → Fault

@@ -31,14 +31,18 @@ sizes_for shape lengths =
     if (shape.code == 2) || shape.vbr then given (take (length lengths - 1) lengths)
     else equal (length lengths)
 
+-- the header of a configuration and channels in a shape, with frames of these lengths
+abbrev pub header_in : ℕ → Bool → Shape → List ℕ → Header
+header_in config stereo shape lengths = record {
+  config = config;
+  stereo = stereo;
+  shape = shape;
+  sizes = sizes_for shape lengths;
+}
+
 -- the header of a value in a shape
 abbrev pub header_for : PacketValue → Shape → Header
-header_for v shape = record {
-  config = v.config;
-  stereo = v.stereo;
-  shape = shape;
-  sizes = sizes_for shape (map length v.frames);
-}
+header_for v shape = header_in v.config v.stereo shape (map length v.frames)
 
 -- the bytes spell the value in this shape, and tail are the padding bytes at their end, which may be any
 pub record IsPacket (v : PacketValue) (shape : Shape) (tail bytes : List ℕ) : Type 0 where

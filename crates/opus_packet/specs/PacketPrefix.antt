@@ -16,7 +16,7 @@ most_bytes h =
 abbrev pub CanBecome : HeaderRead → ℕ → Type 0
 CanBecome (whole h) size = size ≤ most_bytes h
 CanBecome partial size = Unit {0}
-CanBecome (refused place) size = ⊥
+CanBecome (refused rule place) size = ⊥
 
 -- the bytes can become a packet
 abbrev pub IsPacketPrefix : List ℕ → Type 0

@@ -4,13 +4,13 @@ ghost use Rattle.opus_toc.specs.Toc.{code_of, config_of};
 ghost use Rattle.opus_toc.specs.Configuration.{samples_of};
 ghost use Rattle.opus_flen.specs.PaddingLength.{padding_read};
 ghost use Rattle.opus_packet.specs.Value.{max_duration, max_frame};
-ghost use Rattle.opus_packet.specs.Header.{count_and_padding, padding_data, padding_length, body_size, frame_lengths, equal};
+ghost use Rattle.opus_packet.specs.Header.{count_and_padding, padding_data, padding_length, body_size, equal};
 ghost use Rattle.opus_packet.specs.HeaderRead.{header_read, after_toc, after_padding, with_padding, with_lengths, lengths_read, shape_of, is_count, padded_of};
 ghost use Rattle.opus_packet.specs.HeaderStands.{ReadsHeader, IsMade, AreSized, Fills, sizes_value};
 
-use crate::lengths::{Lengths, read_lens};
+use crate::fault::{Fault, Rule};
 use crate::shape::Shape;
-use arrayvec::ArrayVec;
+use crate::spelled::{Spelled, read_lens};
 use opus_flen::{PadRead, pad_parts, read_pad};
 use opus_toc::Toc;
 
@@ -21,31 +21,32 @@ pub const MAX_DURATION: u32 = 5760;
 pub const MAX_FRAME: u16 = 1275;
 
 /// What a header says of the frames' lengths.
-#[derive(Drop)]
-pub enum Sizes {
+#[derive(Clone, Copy)]
+pub enum Sizes<'a> {
     /// So many frames of one length.
     Equal(u8),
     /// The lengths of all frames but the last.
-    Given(Lengths),
+    Given(Spelled<'a>),
 }
 
 /// A header as it was read.
-#[derive(Drop)]
-pub struct Header {
+#[derive(Clone, Copy)]
+pub struct Header<'a> {
     /// The TOC byte.
     pub toc: Toc,
     /// The shape that the header gives the packet.
     pub shape: Shape,
     /// The frames' lengths, as far as they are said.
-    pub sizes: Sizes,
+    pub sizes: Sizes<'a>,
     /// Bytes of the header.
     pub used: usize,
     /// Padding bytes behind the frames.
     pub tail: usize,
 }
 
-impl Header {
+impl<'a> Header<'a> {
     /// Bytes of all frames, where the last one has `last`.
+    #[inline(always)]
     pub fn body_size(&self, last: u16) -> usize
         requires sized { AreSized self.now.sizes }
         requires frame { last ≤ max_frame }
@@ -54,11 +55,12 @@ impl Header {
     {
         match &self.sizes {
             Sizes::Equal(count) => usize::from(*count) * usize::from(last),
-            Sizes::Given(lengths) => lengths.sum + usize::from(last),
+            Sizes::Given(spelled) => usize::from(spelled.sum) + usize::from(last),
         }
     }
 
     /// The length of the last frame, where frames and padding fill the `rest` bytes behind the header.
+    #[inline(always)]
     pub fn last_length(&self, rest: usize) -> Option<u16>
         requires sized { AreSized self.now.sizes }
         requires most { rest ≤ body_size (sizes_value self.now.sizes) max_frame + self.now.tail }
@@ -70,17 +72,21 @@ impl Header {
         let body = rest - self.tail;
         match &self.sizes {
             Sizes::Equal(count) => quotient(body, *count),
-            Sizes::Given(lengths) => remainder(body, lengths.sum),
+            Sizes::Given(spelled) => remainder(body, usize::from(spelled.sum)),
         }
     }
 }
 
 // The length of `count` frames of one length that fill `body` bytes.
+#[inline(always)]
 fn quotient(body: usize, count: u8) -> Option<u16>
     requires some { 1 ≤ count }
     requires most { body ≤ count * max_frame }
     ensures { Fills (equal count) 0 body result }
 {
+    if count == 1 {
+        return Some(body as u16);
+    }
     let count = usize::from(count);
     if body % count == 0 {
         Some((body / count) as u16)
@@ -90,6 +96,7 @@ fn quotient(body: usize, count: u8) -> Option<u16>
 }
 
 // The length of a frame that fills `body` bytes with others that have `sum`.
+#[inline(always)]
 fn remainder(body: usize, sum: usize) -> Option<u16>
     requires { body ≤ sum + max_frame }
     ensures some { IfSome result (λ n. (n ≤ max_frame) × (body ≡ sum + n)) }
@@ -102,40 +109,20 @@ fn remainder(body: usize, sum: usize) -> Option<u16>
     }
 }
 
-/// The frames' lengths, where the last one is `last`.
-pub fn frame_lengths(sizes: Sizes, last: u16) -> ArrayVec<u16, 48>
-    requires { AreSized sizes }
-    ensures { result.items ≡ frame_lengths (sizes_value sizes) last }
-{
-    match sizes {
-        Sizes::Equal(count) => {
-            let mut lengths = ArrayVec::new();
-            for _ in 0..count {
-                lengths.push(last);
-            }
-            lengths
-        }
-        Sizes::Given(lengths) => {
-            let mut lengths = lengths.items;
-            lengths.push(last);
-            lengths
-        }
-    }
-}
-
 /// What the first bytes of a packet say.
-#[derive(Drop)]
-pub enum HeaderRead {
+#[derive(Clone, Copy)]
+pub enum HeaderRead<'a> {
     /// A header stands first.
-    Whole(Header),
+    Whole(Header<'a>),
     /// The bytes are a part of a header.
     Partial,
-    /// No header begins as the bytes up to and with the one at this index do.
-    Refused(usize),
+    /// No header begins as the bytes up to and with the one at the fault's place do.
+    Refused(Fault),
 }
 
 /// Reads the header at the front of `bytes`, which both framings begin with (RFC 6716, 3.2 and Appendix B).
-pub fn read_header(bytes: &[u8]) -> HeaderRead
+#[inline(always)]
+pub fn read_header(bytes: &[u8]) -> HeaderRead<'_>
     ensures { ReadsHeader (length bytes.now) result (header_read bytes.now) }
 {
     let Some((first, rest)) = bytes.split_first() else {
@@ -151,6 +138,7 @@ pub fn read_header(bytes: &[u8]) -> HeaderRead
 }
 
 // The shape of a packet with no count byte.
+#[inline(always)]
 fn plain(code: u8) -> Shape
     ensures { result ≡ shape_of code false 0 }
 {
@@ -161,8 +149,9 @@ fn plain(code: u8) -> Shape
     }
 }
 
-// Padding bytes behind the frames, where the padding has `pad` bytes with its length.
-fn tail_of(pad: u32) -> usize
+/// Padding bytes behind the frames, where the padding has `pad` bytes with its length, below 2^24.
+#[inline(always)]
+pub fn padding_len(pad: u32) -> usize
     requires { pad < 2 ^ 24 }
     ensures data { result ≡ padding_data pad }
     ensures small { result < 2 ^ 24 }
@@ -175,21 +164,23 @@ fn tail_of(pad: u32) -> usize
 }
 
 // The header with these parts.
-fn make(first: u8, shape: Shape, sizes: Sizes, used: usize) -> Header
+#[inline(always)]
+fn make(first: u8, shape: Shape, sizes: Sizes<'_>, used: usize) -> Header<'_>
     requires pad { shape.pad < 2 ^ 24 }
-    ensures { IsMade first shape sizes used result }
+    ensures { IsMade first shape sizes.entry used result }
 {
     Header {
         toc: Toc::of_byte(first),
         shape,
         sizes,
         used,
-        tail: tail_of(shape.pad),
+        tail: padding_len(shape.pad),
     }
 }
 
 // Behind what comes first, `before` bytes, stand the lengths of `count` frames.
-fn read_given(first: u8, shape: Shape, rest: &[u8], count: usize, before: usize) -> HeaderRead
+#[inline(always)]
+fn read_given(first: u8, shape: Shape, rest: &[u8], count: u8, before: usize) -> HeaderRead<'_>
     requires most { count ≤ 47 }
     requires code { shape.code ≡ code_of first }
     requires pad { shape.pad < 2 ^ 24 }
@@ -200,16 +191,17 @@ fn read_given(first: u8, shape: Shape, rest: &[u8], count: usize, before: usize)
         (with_lengths first shape (lengths_read count rest.now)) }
 {
     match read_lens(rest, count) {
-        Some(lengths) => {
-            let used = before + lengths.used;
-            HeaderRead::Whole(make(first, shape, Sizes::Given(lengths), used))
+        Some(spelled) => {
+            let used = before + spelled.bytes.len();
+            HeaderRead::Whole(make(first, shape, Sizes::Given(spelled), used))
         }
         None => HeaderRead::Partial,
     }
 }
 
 // Code 3: behind the TOC byte stands the count byte (RFC 6716, 3.2.5).
-fn read_count(first: u8, rest: &[u8]) -> HeaderRead
+#[inline(always)]
+fn read_count(first: u8, rest: &[u8]) -> HeaderRead<'_>
     requires { code_of first ≡ 3 }
     ensures { ReadsHeader (1 + length rest.now) result (after_toc 3 first rest.now) }
 {
@@ -219,7 +211,10 @@ fn read_count(first: u8, rest: &[u8]) -> HeaderRead
     let count = *count;
     let frames = count % 64;
     if frames == 0 || u32::from(frames) * Toc::of_byte(first).samples() > MAX_DURATION {
-        return HeaderRead::Refused(1);
+        return HeaderRead::Refused(Fault {
+            rule: Rule::R5,
+            place: 1,
+        });
     }
     if count / 64 % 2 == 1 {
         read_padded(first, count, rest)
@@ -229,7 +224,8 @@ fn read_count(first: u8, rest: &[u8]) -> HeaderRead
 }
 
 // Code 3 behind the count byte, where a padding length follows.
-fn read_padded(first: u8, count: u8, rest: &[u8]) -> HeaderRead
+#[inline(always)]
+fn read_padded(first: u8, count: u8, rest: &[u8]) -> HeaderRead<'_>
     requires code { code_of first ≡ 3 }
     requires count { IsTrue (is_count first count) }
     requires padded { IsTrue (padded_of count) }
@@ -239,12 +235,16 @@ fn read_padded(first: u8, count: u8, rest: &[u8]) -> HeaderRead
     match read_pad(rest) {
         PadRead::Pad { total, used } => read_sizes(first, count, total, &rest[used..], 2 + used),
         PadRead::Cut => HeaderRead::Partial,
-        PadRead::Limit { place } => HeaderRead::Refused(place + 2),
+        PadRead::Limit { place } => HeaderRead::Refused(Fault {
+            rule: Rule::PadLimit,
+            place: place as u64 + 2,
+        }),
     }
 }
 
 // Code 3 behind the count byte and the padding length: `before` bytes, with `pad` bytes of padding.
-fn read_sizes(first: u8, count: u8, pad: u32, rest: &[u8], before: usize) -> HeaderRead
+#[inline(always)]
+fn read_sizes(first: u8, count: u8, pad: u32, rest: &[u8], before: usize) -> HeaderRead<'_>
     requires code { code_of first ≡ 3 }
     requires count { IsTrue (is_count first count) }
     requires pad { pad < 2 ^ 24 }
@@ -260,7 +260,7 @@ fn read_sizes(first: u8, count: u8, pad: u32, rest: &[u8], before: usize) -> Hea
         pad,
     };
     if shape.vbr {
-        read_given(first, shape, rest, usize::from(frames) - 1, before)
+        read_given(first, shape, rest, frames - 1, before)
     } else {
         HeaderRead::Whole(make(first, shape, Sizes::Equal(frames), before))
     }

@@ -5,20 +5,28 @@
 mod fault;
 mod frames;
 mod header;
+mod held;
 pub mod laws;
-mod lengths;
+mod lens;
 mod packet;
+mod places;
 mod shape;
-mod span;
+mod spelled;
+mod spelling;
+mod tail;
 #[cfg(test)]
 mod tests;
 mod undelimited;
 
 pub use fault::{Fault, Rule};
 pub use frames::Frames;
-pub use header::{Header, HeaderRead, MAX_FRAME, Sizes, frame_lengths, read_header};
-pub use lengths::Lengths;
+pub use header::{Header, HeaderRead, MAX_FRAME, Sizes, padding_len, read_header};
+pub use held::Held;
+pub use lens::Lens;
 pub use packet::Packet;
+pub use places::{Places, locate};
 pub use shape::Shape;
-pub use span::Span;
+pub use spelled::Spelled;
+pub use spelling::gives_lens;
+pub use tail::{MAX_TAIL, Tail};
 pub use undelimited::decode;

@@ -1,4 +1,5 @@
-use crate::{Fault, Rule, decode};
+//! Packets with their answers.
+use crate::{Held, Packet, Rule, Tail, decode};
 use std::test::Fail;
 
 // What `decode` says: the frames' count, code, VBR and padding total; or the rule and the place.
@@ -94,4 +95,138 @@ fn no_packet_outlasts_120_milliseconds(rt: HostRuntime) {
             }
         }
     }
+}
+
+// Rows: the bytes 255 of a padding length, its last byte, and the padding bytes that it tells: 254 for each 255.
+#[test]
+fn padding_bytes_are_kept_up_to_65535(rt: HostRuntime) -> Result<(), Fail> {
+    let alloc = rt.alloc();
+    let table: [(usize, u8, usize); 11] = [
+        (0, 0, 0),
+        (0, 1, 1),
+        (0, 253, 253),
+        (0, 254, 254),
+        (1, 0, 254),
+        (1, 1, 255),
+        (1, 254, 508),
+        (2, 0, 508),
+        (258, 3, 65535),
+        (257, 254, 65532),
+        (258, 4, 65536),
+    ];
+    for (full, last, count) in table {
+        let mut tail = Vec::new(alloc);
+        for i in 0..count {
+            tail.push((i % 251) as u8)?;
+        }
+        let mut bytes = Vec::from_slice(alloc, b"\xfb\x41")?;
+        for _ in 0..full {
+            bytes.push(255)?;
+        }
+        bytes.extend_from_slice(&[last, 0xAA])?;
+        bytes.extend_from_slice(&tail)?;
+        let packet = decode(&bytes)?;
+        assert_eq!(rt; packet.body(), [0xAA].as_slice());
+        match packet.tail() {
+            Tail::Bytes(kept) => {
+                assert_eq!(rt; kept, tail.as_slice());
+                assert!(rt; count <= 65535);
+            }
+            Tail::Dropped(dropped) => assert_eq!(rt; (dropped, count), (65536, 65536)),
+        }
+    }
+    Ok(())
+}
+
+// Frame i has 26 * i bytes, i and those behind it; so the lengths from the tenth on take two bytes.
+#[test]
+fn each_of_48_frames_is_found(rt: HostRuntime) -> Result<(), Fail> {
+    let mut bytes = Vec::from_slice(rt.alloc(), b"\x83\xb0")?;
+    for i in 0..47u16 {
+        let len = 26 * i;
+        if len < 252 {
+            bytes.push(len as u8)?;
+        } else {
+            bytes.extend_from_slice(&[252 + (len % 4) as u8, (len / 4 - 63) as u8])?;
+        }
+    }
+    for i in 0..48u16 {
+        for j in 0..26 * i {
+            bytes.push(((i + j) % 256) as u8)?;
+        }
+    }
+    let packet = decode(&bytes)?;
+    assert_eq!(rt; packet.count(), 48);
+    let mut frames = packet.frames();
+    for i in 0..packet.count() {
+        let frame = packet.frame(i);
+        assert_eq!(rt; frame.len(), 26 * i);
+        assert!(rt; i == 0 || frame.first() == Some(&(i as u8)));
+        assert_eq!(rt; frames.next(), Some(frame));
+    }
+    assert_eq!(rt; frames.next(), None);
+    Ok(())
+}
+
+// Code, VBR, padding total and size.
+type Spelling = (u8, bool, u32, u32);
+
+fn spelling(packet: &Packet<'_>) -> Spelling {
+    let shape = packet.shape();
+    (shape.code, shape.vbr, shape.pad, packet.size())
+}
+
+fn tail_is(packet: &Packet<'_>, tail: &[u8]) -> bool {
+    match packet.tail() {
+        Tail::Bytes(bytes) => bytes == tail,
+        Tail::Dropped(_) => false,
+    }
+}
+
+// Rows: a packet, how a copy of its value is spelled, its padding bytes, and how the copy with these is spelled.
+#[test]
+fn a_held_value_is_the_packets(rt: HostRuntime) -> Result<(), Fail> {
+    let alloc = rt.alloc();
+    let table: [(&[u8], Spelling, &[u8], Spelling); 5] = [
+        (&[0xF8, 0xAA], (0, false, 0, 2), &[], (0, false, 0, 2)),
+        (
+            &[0xFB, 0x41, 0, 0xAA],
+            (0, false, 0, 2),
+            &[],
+            (0, false, 0, 2),
+        ),
+        (
+            &[0xFB, 0xC2, 2, 1, 0xAA, 0xBB, 0x11, 0x22],
+            (1, false, 0, 3),
+            &[0x11, 0x22],
+            (3, false, 3, 7),
+        ),
+        (
+            &[0xFB, 0xC2, 1, 0, 0xAA, 0xBB, 9],
+            (2, false, 0, 4),
+            &[9],
+            (3, true, 2, 7),
+        ),
+        (
+            &[0xFB, 0xC3, 1, 1, 0, 0xAA, 0xBB, 9],
+            (3, true, 0, 6),
+            &[9],
+            (3, true, 2, 8),
+        ),
+    ];
+    for (bytes, canonical, tail, kept) in table {
+        let packet = decode(bytes)?;
+        let held = Held::copy(alloc, &packet)?;
+        assert_eq!(rt; spelling(&held.view()), canonical);
+        assert_eq!(rt; held.view().body(), packet.body());
+        assert_eq!(rt; held.view().count(), packet.count());
+        assert!(rt; tail_is(&held.view(), &[]));
+        if let Tail::Bytes(_) = packet.tail() {
+            let held = Held::copy_kept(alloc, &packet)?;
+            assert_eq!(rt; spelling(&held.view()), kept);
+            assert_eq!(rt; held.view().body(), packet.body());
+            assert!(rt; tail_is(&held.view(), tail));
+        }
+    }
+    Ok(())
 }

@@ -2,6 +2,7 @@
 use Rattle.std.proofs.Common.{◌≡◌, ℕ, ◌+◌, ◌≤◌, ◌<◌, List, length, drop, sym, ap, ◌∙◌, subst, arith}
 use Rattle.opus_flen.specs.FrameLength.{length_bytes, length_read}
 use Rattle.opus_flen.specs.declared.frame_length.LenRead.{LenRead}
+use Rattle.opus_packet.specs.declared.fault.Rule.{Rule}
 use Rattle.opus_packet.specs.declared.shape.Shape.{Shape}
 use Rattle.opus_packet.specs.Value.{PacketValue}
 use Rattle.opus_packet.specs.Header.{Header, header_bytes}
@@ -30,8 +31,8 @@ not_sized bs v s used r said none begins =
 pub sized≢unsized : (h : Header) (n : ℕ) → sized h n ≡ unsized → ⊥
 sized≢unsized h n e = cc
 
-pub sized≢never : (place : ℕ) (h : Header) (n : ℕ) → sized h n ≡ never place → ⊥
-sized≢never place h n e = cc
+pub sized≢never : (rule : Rule) (place : ℕ) (h : Header) (n : ℕ) → sized h n ≡ never rule place → ⊥
+sized≢never rule place h n e = cc
 
 -- a packet that is longer than the bytes doesn't stand first in them
 pub not_whole : (h : Header) (n : ℕ) (bs : List ℕ) (v : PacketValue) (s : Shape) (used : ℕ)

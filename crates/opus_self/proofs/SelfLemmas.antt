@@ -13,7 +13,7 @@ use Rattle.opus_packet.specs.HeaderRead.{whole, header_read}
 use Rattle.opus_packet.specs.HeaderStands.{value_at}
 use Rattle.opus_packet.specs.PacketGrammar.{IsPacket, Suits, header_for}
 use Rattle.opus_packet.specs.PacketPrefix.{AreBytes}
-use Rattle.opus_packet.specs.Spans.{cut}
+use Rattle.opus_packet.specs.Cut.{cut}
 use Rattle.opus_packet.specs.SelfGrammar.{last_length, IsSelfDelimited, BeginsWithSelf}
 use Rattle.opus_packet.specs.SelfPrefix.{sized, after_header, with_last, self_header_read, self_size}
 use Rattle.opus_packet.proofs.BytesLemmas.{AreBytes-append, AreBytes-left, AreBytes-right, AreBytes-take}
@@ -111,7 +111,7 @@ length-packet v s tail bs p =
     ∙ ap (λ n. length l + n) (length-append (concat v.frames) tail)) ∙ omega arith
 
 -- the undelimited packet in it
-undelimited : (v : PacketValue) (s : Shape) (tail bs : List ℕ) → IsSelfDelimited v s tail bs
+pub undelimited : (v : PacketValue) (s : Shape) (tail bs : List ℕ) → IsSelfDelimited v s tail bs
     → IsPacket v s tail (header_bytes (header_for v s) ++ rest_of v tail)
 undelimited v s tail bs p = record {
   value = p.value;

@@ -1,118 +1,27 @@
 -- What can still become a self-delimited packet: what is missing is added.
 use Rattle.std.proofs.Common.{◌≡◌, ℕ, ◌+◌, ◌-◌, ◌≤◌, List, [], ◌∷◌, ◌++◌, length, take, drop, replicate, refl, sym, ap, ◌∙◌, subst, append_assoc, append-nil, length-append, take-append-drop, take-take, take_all, drop_at, take_at, ⊎_elim, arith}
-use Rattle.std.proofs.Math.Seq.{drop-append-add}
 use Rattle.std.proofs.lemmas.Bool.{cases_lt}
 use Rattle.std.proofs.lemmas.List.{length-replicate, nil_from_length}
 use Rattle.opus_flen.specs.FrameLength.{length_bytes, length_read}
-use Rattle.opus_flen.specs.declared.frame_length.LenRead.{LenRead}
-use Rattle.opus_flen.specs.declared.frame_length.LenRead.TheVariants.{Len, Cut as CutLength}
-use Rattle.opus_flen.proofs.LengthLemmas.{length_read-sound, length_read-split, length_read-completed}
+use Rattle.opus_flen.specs.declared.frame_length.LenRead.TheVariants.{Cut as CutLength}
+use Rattle.opus_flen.proofs.LengthLemmas.{length_read-sound, length_read-completed}
+use Rattle.opus_packet.specs.declared.fault.Rule.{Rule}
 use Rattle.opus_packet.specs.declared.shape.Shape.{Shape}
-use Rattle.opus_packet.specs.Value.{PacketValue, max_frame}
+use Rattle.opus_packet.specs.Value.{PacketValue}
 use Rattle.opus_packet.specs.Header.{Header, header_bytes}
-use Rattle.opus_packet.specs.HeaderRead.{HeaderRead, whole, partial, refused, header_read}
+use Rattle.opus_packet.specs.HeaderRead.{whole, refused, header_read}
 use Rattle.opus_packet.specs.PacketGrammar.{header_for}
 use Rattle.opus_packet.specs.PacketPrefix.{AreBytes}
 use Rattle.opus_packet.specs.SelfGrammar.{SpellsSelf, IsSomeSelfDelimited, BeginsWithSelf}
-use Rattle.opus_packet.specs.SelfPrefix.{SelfHeaderRead, sized, unsized, never, after_header, with_last, self_header_read, self_size, CanBecomeSelf, IsSelfDelimitedPrefix, self_fault_by, self_delimited_fault}
+use Rattle.opus_packet.specs.SelfPrefix.{SelfHeaderRead, sized, unsized, never, after_header, self_header_read, self_size, CanBecomeSelf, IsSelfDelimitedPrefix, self_fault_by, self_delimited_fault}
 use Rattle.opus_packet.proofs.BytesLemmas.{AreBytes-at, AreBytes-append, AreBytes-drop, AreBytes-zeros}
-use Rattle.opus_packet.proofs.HeaderLemmas.{IsHeader, header_read-begins, header_read-refused_more, header_read-refused_at}
+use Rattle.opus_packet.proofs.HeaderLemmas.{header_read-begins, header_read-refused_more, header_read-refused_at}
 use Rattle.opus_packet.proofs.PrefixLemmas.{header_read-completed}
 use Rattle.opus_self.specs.ValueBehind.{value_behind}
 use Rattle.opus_self.specs.BecomesSelf.{BecomesSelf, BeginsWithNone}
 use Rattle.opus_self.specs.LongestSelfPrefix.{IsLongestSelfPrefix}
-use Rattle.opus_self.proofs.SelfLemmas.{last_of, self_header_read-spelled, IsReadAt, begins_only, found_first}
-
--- a header and a last length that were read
-
--- they stand first, as their one spelling
-pub record BeginsSized (bs : List ℕ) (h : Header) (n : ℕ) : Type 0 where
-  pub is_header : IsHeader h
-  pub fits : n ≤ max_frame
-  pub rest : List ℕ
-  pub spelled : bs ≡ header_bytes h ++ (length_bytes n ++ rest)
-
--- what bytes are read as a header, and as a last length behind it
-pub data IsSized (bs : List ℕ) (h : Header) (n : ℕ) : Type 0 where
-  is_sized : {used : ℕ} → header_read bs ≡ whole h
-      → length_read (drop (length (header_bytes h)) bs) ≡ Len n used → IsSized bs h n
-
--- or not as a whole header, or as one with a part of a length behind it
-pub data IsUnsized (bs : List ℕ) : Type 0 where
-  no_header : header_read bs ≡ partial → IsUnsized bs
-  no_length : {h : Header} → header_read bs ≡ whole h
-      → length_read (drop (length (header_bytes h)) bs) ≡ CutLength → IsUnsized bs
-
-abbrev WayTo : List ℕ → SelfHeaderRead → Type 0
-WayTo bs (sized h n) = IsSized bs h n
-WayTo bs unsized = IsUnsized bs
-WayTo bs (never place) = header_read bs ≡ refused place
-
-way : (bs : List ℕ) → WayTo bs (self_header_read bs)
-way bs = go (header_read bs) refl
-  where
-    last : (h : Header) → header_read bs ≡ whole h → (r : LenRead)
-        → length_read (drop (length (header_bytes h)) bs) ≡ r → WayTo bs (with_last h r)
-    last h read (Len n used) e = is_sized read e
-    last h read CutLength e = no_length read e
-
-    go : (r : HeaderRead) → header_read bs ≡ r → WayTo bs (after_header bs r)
-    go (whole h) read = last h read (length_read (drop (length (header_bytes h)) bs)) refl
-    go partial read = no_header read
-    go (refused place) read = read
-
-way_to : (bs : List ℕ) (r : SelfHeaderRead) → self_header_read bs ≡ r → WayTo bs r
-way_to bs r read = subst (WayTo bs) read (way bs)
-
-begins_by : (bs : List ℕ) → AreBytes bs → (h : Header) (n : ℕ) → IsSized bs h n → BeginsSized bs h n
-begins_by bs are h n (is_sized {used} read e) =
-    let begins = header_read-begins bs are h read in
-    let front = length (header_bytes h) in
-    let behind = drop front bs in
-    let are_behind = AreBytes-drop front bs are in
-    let found = length_read-sound behind n used (AreBytes-at behind are_behind) e in
-    let after : behind ≡ begins.rest =
-    ap (drop front) begins.spelled ∙ drop_at (header_bytes h) begins.rest front refl in
-    record {
-      is_header = begins.is_header;
-      fits = found.0.fits;
-      rest = drop used behind;
-      spelled = begins.spelled
-          ∙ ap (λ l. header_bytes h ++ l)
-          (sym after ∙ length_read-split behind n used (AreBytes-at behind are_behind) e);
-    }
-
-pub self_header_read-begins : (bs : List ℕ) → AreBytes bs → (h : Header) (n : ℕ)
-    → self_header_read bs ≡ sized h n → BeginsSized bs h n
-self_header_read-begins bs are h n read = begins_by bs are h n (way_to bs (sized h n) read)
-
--- bytes behind them change nothing
-pub self_header_read-more : (bs : List ℕ) → AreBytes bs → (h : Header) (n : ℕ)
-    → self_header_read bs ≡ sized h n → (more : List ℕ) → self_header_read (bs ++ more) ≡ sized h n
-self_header_read-more bs are h n read more =
-    let begins = self_header_read-begins bs are h n read in
-    let front = header_bytes h in
-    let l = length_bytes n in
-    ap self_header_read
-    (ap (λ xs. xs ++ more) begins.spelled ∙ append_assoc front (l ++ begins.rest) more
-    ∙ ap (λ xs. front ++ xs) (append_assoc l begins.rest more))
-    ∙ self_header_read-spelled h begins.is_header n (begins.rest ++ more)
-
--- so much is there that the packet is whole
-pub begins_found : (bs : List ℕ) → AreBytes bs → (h : Header) (n : ℕ) → self_header_read bs ≡ sized h n
-    → self_size h n ≤ length bs
-    → BeginsWithSelf (value_behind h n (drop (length (header_bytes h) + length (length_bytes n)) bs))
-    h.shape (self_size h n) bs
-begins_found bs are h n read within =
-    let begins = self_header_read-begins bs are h n read in
-    let front = header_bytes h in
-    let l = length_bytes n in
-    let behind : drop (length front + length l) bs ≡ begins.rest =
-    ap (drop (length front + length l)) begins.spelled
-    ∙ drop-append-add front (l ++ begins.rest) (length l) ∙ drop_at l begins.rest (length l) refl in
-    let first : List ℕ = drop (length front + length l) bs in
-    found_first h begins.is_header n begins.fits bs first are
-    (begins.spelled ∙ ap (λ xs. front ++ (l ++ xs)) (sym behind)) within
+use Rattle.opus_self.proofs.SelfLemmas.{last_of, self_header_read-spelled, IsReadAt, begins_only}
+pub use Rattle.opus_self.proofs.SizedLemmas.{BeginsSized, IsSized, is_sized, IsUnsized, no_header, no_length, way_to, self_header_read-begins, self_header_read-more, begins_found}
 
 -- a prefix becomes a packet
 
@@ -198,14 +107,14 @@ self_becomes bs are can = go (self_header_read bs) refl can
     go : (r : SelfHeaderRead) → self_header_read bs ≡ r → CanBecomeSelf r (length bs) → BecomesSelf bs
     go (sized h n) read fits = sized_becomes bs are h n read fits
     go unsized read fits = unsized_becomes bs are (way_to bs unsized read)
-    go (never place) read fits = absurd fits
+    go (never rule place) read fits = absurd fits
 
 -- what becomes a packet is a prefix
 
 -- what is refused stays refused
-never_more : (bs : List ℕ) (place : ℕ) → header_read bs ≡ refused place → (more : List ℕ)
-    → self_header_read (bs ++ more) ≡ never place
-never_more bs place read more = ap (after_header (bs ++ more)) (header_read-refused_more bs place read more)
+never_more : (bs : List ℕ) (rule : Rule) (place : ℕ) → header_read bs ≡ refused rule place → (more : List ℕ)
+    → self_header_read (bs ++ more) ≡ never rule place
+never_more bs rule place read more = ap (after_header (bs ++ more)) (header_read-refused_more bs rule place read more)
 
 prefix_by : (bs more : List ℕ) → AreBytes bs → (v : PacketValue) (s : Shape) (used : ℕ)
     → IsReadAt v s used (bs ++ more) → length bs ≤ used
@@ -217,9 +126,9 @@ prefix_by bs more are v s used at all (sized h n) read =
     let most : length bs ≤ self_size (header_for v s) (last_of v) = omega arith in
     subst (λ r. CanBecomeSelf r (length bs)) both most
 prefix_by bs more are v s used at all unsized read = tt
-prefix_by bs more are v s used at all (never place) read =
+prefix_by bs more are v s used at all (never rule place) read =
     let ever = at.read in
-    let no = never_more bs place (way_to bs (never place) read) more in
+    let no = never_more bs rule place (way_to bs (never rule place) read) more in
     cc
 
 pub prefix_of_self : (bs : List ℕ) → AreBytes bs → BecomesSelf bs → IsSelfDelimitedPrefix bs
@@ -236,9 +145,9 @@ itself_longest bs can = record {
   longest = (λ n past within is. omega arith);
 }
 
-refused_longest : (bs : List ℕ) (place : ℕ) → header_read bs ≡ refused place → IsLongestSelfPrefix bs place
-refused_longest bs place read =
-    let at = header_read-refused_at bs place read in
+refused_longest : (bs : List ℕ) (rule : Rule) (place : ℕ) → header_read bs ≡ refused rule place → IsLongestSelfPrefix bs place
+refused_longest bs rule place read =
+    let at = header_read-refused_at bs rule place read in
     let inside = at.within in
     record {
       within = omega arith;
@@ -249,8 +158,8 @@ refused_longest bs place read =
           let behind = drop (place + 1) (take n bs) in
           let split : take n bs ≡ take (place + 1) bs ++ behind =
           sym (take-append-drop (place + 1) (take n bs)) ∙ ap (λ l. l ++ behind) front in
-          let no : self_header_read (take n bs) ≡ never place =
-          ap self_header_read split ∙ never_more (take (place + 1) bs) place at.there behind in
+          let no : self_header_read (take n bs) ≡ never rule place =
+          ap self_header_read split ∙ never_more (take (place + 1) bs) rule place at.there behind in
           subst (λ r. CanBecomeSelf r (length (take n bs))) no is);
     }
 
@@ -264,7 +173,7 @@ fault_at bs are none (sized h n) read =
     (cases_lt (length bs) (self_size h n))
 fault_at bs are none unsized read =
     itself_longest bs (subst (λ r. CanBecomeSelf r (length bs)) (sym read) tt)
-fault_at bs are none (never place) read = refused_longest bs place (way_to bs (never place) read)
+fault_at bs are none (never rule place) read = refused_longest bs rule place (way_to bs (never rule place) read)
 
 pub self_delimited_fault-longest : (bs : List ℕ) → AreBytes bs → BeginsWithNone bs
     → IsLongestSelfPrefix bs (self_delimited_fault bs).place
@@ -277,7 +186,7 @@ self_delimited_fault-whole bs can = go (self_header_read bs) can
     go : (r : SelfHeaderRead) → CanBecomeSelf r (length bs) → (self_fault_by r (length bs)).place ≡ length bs
     go (sized h n) fits = refl
     go unsized fits = refl
-    go (never place) fits = absurd fits
+    go (never rule place) fits = absurd fits
 
 -- where a packet ends
 

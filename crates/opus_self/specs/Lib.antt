@@ -1,3 +1,6 @@
 pub mod ValueBehind
 pub mod BecomesSelf
 pub mod LongestSelfPrefix
+pub mod SelfFits
+pub mod HasSelfTail
+pub mod LongestSelfFront

@@ -3,6 +3,10 @@
 #![tactic(auto)]
 
 pub mod laws;
+mod places;
 mod self_delimited;
+#[cfg(test)]
+mod tests;
 
+pub use places::{SelfPlaces, locate_self};
 pub use self_delimited::{SelfRead, decode_self};

@@ -1,14 +1,13 @@
 -- Headers made of lengths.
-use Rattle.std.proofs.Common.{◌≡◌, ℕ, ◌+◌, ◌-◌, ◌≤◌, Bool, true, false, ◌||◌, ◌==◌, if◌then◌else◌, List, ◌∷◌, ◌++◌, length, take, flat_map, All, refl, sym, ap, ◌∙◌, length-take-le, arith}
+use Rattle.std.proofs.Common.{◌≡◌, ℕ, ◌+◌, ◌-◌, ◌≤◌, Bool, true, false, ◌||◌, ◌==◌, if◌then◌else◌, List, [], ◌∷◌, ◌++◌, length, take, flat_map, All, refl, sym, ap, ◌∙◌, length-take-le, append_assoc, arith}
 use Rattle.std.proofs.lemmas.List.Elements.{All-take, All-nil}
 use Rattle.opus_toc.specs.Toc.{toc_byte}
 use Rattle.opus_flen.specs.FrameLength.{length_bytes}
 use Rattle.opus_packet.specs.declared.shape.Shape.{Shape}
 use Rattle.opus_packet.specs.Value.{max_frame}
 use Rattle.opus_packet.specs.Header.{equal, given, frame_count, given_lengths, count_and_padding, header_bytes}
-use Rattle.opus_packet.specs.PacketGrammar.{sizes_for}
+use Rattle.opus_packet.specs.PacketGrammar.{sizes_for, header_in}
 use Rattle.opus_packet.proofs.HeaderLemmas.{header_bytes-is}
-use Rattle.opus_writer.specs.CanonicalHeader.{header_in}
 
 count_by : (b : Bool) (lengths : List ℕ) → 1 ≤ length lengths
     → frame_count (if b then given (take (length lengths - 1) lengths) else equal (length lengths))
@@ -53,3 +52,23 @@ each_by false lengths each = All-nil (λ n. n ≤ max_frame)
 pub All-given_lengths : (shape : Shape) (lengths : List ℕ) → All (λ n. n ≤ max_frame) lengths
     → All (λ n. n ≤ max_frame) (given_lengths (sizes_for shape lengths))
 All-given_lengths shape lengths each = each_by ((shape.code == 2) || shape.vbr) lengths each
+
+-- a header in its parts, appended one after another
+pub header-made : (config : ℕ) (stereo : Bool) (shape : Shape) (lengths : List ℕ) → 1 ≤ length lengths
+    → (before with_toc with_count bytes spelled : List ℕ) (toc : ℕ) → toc ≡ toc_byte config stereo shape.code
+    → with_toc ≡ before ++ toc ∷ [] → with_count ≡ with_toc ++ count_and_padding shape (length lengths)
+    → bytes ≡ with_count ++ spelled → spelled ≡ flat_map length_bytes (given_lengths (sizes_for shape lengths))
+    → bytes ≡ before ++ header_bytes (header_in config stereo shape lengths)
+header-made config stereo shape lengths some before with_toc with_count bytes spelled toc toc_is t c b s =
+    let count = count_and_padding shape (length lengths) in
+    b ∙ ap (λ l. l ++ spelled) c ∙ ap (λ l. (l ++ count) ++ spelled) t
+    ∙ append_assoc (before ++ toc ∷ []) count spelled
+    ∙ append_assoc before (toc ∷ []) (count ++ spelled)
+    ∙ ap (λ n. before ++ n ∷ (count ++ spelled)) toc_is
+    ∙ ap (λ l. before ++ toc_byte config stereo shape.code ∷ (count ++ l)) s
+    ∙ ap (λ l. before ++ l) (header_in-is config stereo shape lengths some)
+
+-- the lengths that a header gives, by whether it does
+pub given-if : (b : Bool) (shape : Shape) (lengths : List ℕ) → b ≡ ((shape.code == 2) || shape.vbr)
+    → given_lengths (sizes_for shape lengths) ≡ given_lengths (if b then given (take (length lengths - 1) lengths) else equal (length lengths))
+given-if b shape lengths is = rw is refl

@@ -1,5 +1,9 @@
 pub mod HeaderLemmas
-pub mod FramesLemmas
 pub mod SelfLemmas
 pub mod FormLemmas
 pub mod MostBytes
+pub mod ListedLemmas
+pub mod PutsLemmas
+pub mod PaddedLemmas
+pub mod KeptLemmas
+pub mod StandardFacts

@@ -1,30 +1,20 @@
 -- The most bytes that a canonical form has.
-use Rattle.std.proofs.Common.{◌≡◌, ℕ, ◌+◌, ◌*◌, ◌≤◌, Bool, true, false, ◌==◌, if◌then◌else◌, List, [], ◌∷◌, ◌++◌, length, map, flat_map, sum, All, refl, ap, length-append, ◌⊎◌, inl, inr, ⊎_elim, arith}
+use Rattle.std.proofs.Common.{◌≡◌, ℕ, ◌+◌, ◌*◌, ◌≤◌, Bool, true, false, ◌==◌, if◌then◌else◌, List, [], ◌∷◌, length, map, flat_map, sum, All, refl, ap, length-append, ◌⊎◌, inl, inr, ⊎_elim, arith}
 use Rattle.std.specs.List.{concat, list_all}
 use Rattle.std.proofs.lemmas.Bool.{and_parts, eqb-false, cases_Bool}
 use Rattle.std.proofs.lemmas.List.Elements.{All-head, All-tail}
 use Rattle.std.proofs.lemmas.List.Sums.{sum_by-le}
 use Rattle.opus_flen.specs.FrameLength.{length_bytes}
-use Rattle.opus_flen.proofs.LengthLemmas.{length-length_bytes}
 use Rattle.opus_packet.specs.Value.{PacketValue, max_frame}
 use Rattle.opus_packet.specs.Header.{given_lengths, padding_length, count_and_padding, frame_count, header_bytes}
-use Rattle.opus_packet.specs.PacketGrammar.{sizes_for}
-use Rattle.opus_packet.specs.Canonical.{have_one_length, canonical_shape}
-use Rattle.opus_packet.proofs.CanonicalLemmas.{canonical_shape-pad}
+use Rattle.opus_packet.specs.PacketGrammar.{sizes_for, header_in}
+use Rattle.opus_packet.specs.Canonical.{have_one_length, canonical_shape, canonical}
+use Rattle.opus_packet.proofs.CanonicalLemmas.{canonical_shape-pad, canonical-is}
 use Rattle.opus_packet.proofs.CutLemmas.{sum-cons, length-concat}
 use Rattle.opus_packet.proofs.Made.{length-header_bytes}
-use Rattle.opus_writer.specs.CanonicalHeader.{header_in, canonical_header}
+use Rattle.opus_packet.proofs.LensLemmas.{spelled_most}
+use Rattle.opus_writer.specs.Forms.{canonical_header}
 use Rattle.opus_writer.proofs.HeaderLemmas.{length-given_lengths}
-
-spelled_most : (ns : List ℕ) → length (flat_map length_bytes ns) ≤ 2 * length ns
-spelled_most [] = omega arith
-spelled_most (n ∷ ns) =
-    let whole : length (length_bytes n ++ flat_map length_bytes ns)
-    ≡ length (length_bytes n) + length (flat_map length_bytes ns) =
-    length-append (length_bytes n) (flat_map length_bytes ns) in
-    let one = length-length_bytes n in
-    let rest = spelled_most ns in
-    omega arith
 
 sum_most : (ns : List ℕ) → All (λ n. n ≤ max_frame) ns → sum ns ≤ max_frame * length ns
 sum_most ns each = let most = sum_by-le (λ (n : ℕ). n) max_frame ns each in omega arith
@@ -100,3 +90,9 @@ canonical_header-most v lengths e some most each =
     let own = rw e at (header_in-most v.config v.stereo lengths some most each) in
     let body = length-concat v.frames in
     omega arith
+
+pub canonical-most : (v : PacketValue) (lengths : List ℕ) → lengths ≡ map length v.frames
+    → 1 ≤ length lengths → length lengths ≤ 48 → All (λ n. n ≤ max_frame) lengths
+    → length (canonical v) ≤ 61295
+canonical-most v lengths e some most each =
+    omega (arith, canonical_header-most v lengths e some most each, ap length (canonical-is v), length-append (canonical_header v) (concat v.frames))

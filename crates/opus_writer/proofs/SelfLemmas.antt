@@ -11,13 +11,8 @@ use Rattle.opus_packet.specs.SelfGrammar.{last_length, self_header_bytes, IsSelf
 use Rattle.opus_packet.specs.Canonical.{canonical_shape, canonical_self_delimited}
 use Rattle.opus_packet.proofs.HeaderLemmas.{IsHeader, header_read-spelled}
 use Rattle.opus_packet.proofs.GrammarLemmas.{header_for-is}
+use Rattle.opus_writer.proofs.FormLemmas.{canonical_self-is}
 use Rattle.opus_packet.proofs.CanonicalLemmas.{canonical-is, canonical-is_packet, canonical-unique}
-
-pub canonical_self-is : (v : PacketValue)
-    → canonical_self_delimited v
-    ≡ self_header_bytes v (canonical_shape (map length v.frames)) ++ concat v.frames
-unfolding canonical_self_delimited
-canonical_self-is v = refl
 
 pub canonical_self-is_packet : (v : PacketValue) → IsPacketValue v
     → IsSelfDelimited v (canonical_shape (map length v.frames)) [] (canonical_self_delimited v)
@@ -36,7 +31,7 @@ canonical_self-is_packet v is =
 same_header : {g h : Header} → whole g ≡ whole h → g ≡ h
 same_header e = cc
 
-parts-unique : (g h : Header) (m n : ℕ) (xs ys : List ℕ) → IsHeader g → IsHeader h
+pub parts-unique : (g h : Header) (m n : ℕ) (xs ys : List ℕ) → IsHeader g → IsHeader h
     → (header_bytes g ++ length_bytes m) ++ xs ≡ (header_bytes h ++ length_bytes n) ++ ys
     → (g ≡ h) × (xs ≡ ys)
 parts-unique g h m n xs ys is_g is_h e =

@@ -1,1 +1,3 @@
-pub mod CanonicalHeader
+pub mod Forms
+pub mod Padded
+pub mod Puts

@@ -1,149 +1,178 @@
-//! The header of the canonical form.
-ghost use Rattle.std.specs.Prelude.{◌≡◌, ◌==◌, ◌*◌, ◌∷◌, ◌+◌, ◌≤◌, ◌<◌, ◌++◌, length, map, flat_map, All};
-ghost use Rattle.std.specs.List.{concat, list_all};
+//! The headers of the written forms, made where they stand. The array may hold other bytes before the header, so
+//! that both are written as one piece.
+ghost use Rattle.std.specs.Prelude.{◌≡◌, ℕ, ◌+◌, ◌-◌, ◌*◌, ◌^◌, ◌≤◌, ◌<◌, ◌++◌, ◌∷◌, length, map, take, flat_map};
 ghost use Rattle.arrayvec.specs.ArrayVec.{array_vec_len};
-ghost use Rattle.opus_toc.specs.Toc.{toc_byte};
 ghost use Rattle.opus_flen.specs.FrameLength.{length_bytes};
 ghost use Rattle.opus_packet.specs.Value.{max_frame};
-ghost use Rattle.opus_packet.specs.Header.{given_lengths, count_and_padding, header_bytes};
-ghost use Rattle.opus_packet.specs.PacketGrammar.{sizes_for};
-ghost use Rattle.opus_packet.specs.Canonical.{have_one_length, canonical_shape};
-ghost use Rattle.opus_writer.specs.CanonicalHeader.{canonical_header, canonical_self_header, header_in};
+ghost use Rattle.opus_packet.specs.Header.{padding_length, count_byte, count_and_padding, header_bytes};
+ghost use Rattle.opus_packet.specs.PacketGrammar.{header_in};
+ghost use Rattle.opus_packet.specs.Tail.{max_tail};
+ghost use Rattle.opus_writer.specs.Forms.{canonical_header, canonical_self_header, keep_header, keep_self_header};
 
 use arrayvec::ArrayVec;
-use opus_flen::len_bytes;
-use opus_packet::{Packet, Shape};
+use opus_flen::{len_bytes, pad_parts};
+use opus_packet::{Lens, Packet, Shape, gives_lens};
 use opus_toc::Toc;
 
-/// The header of the canonical form (RFC 6716, 3.2): at most 96 bytes.
-pub(crate) fn canon_header(packet: &Packet<'_>) -> ArrayVec<u8, 98>
-    ensures bytes { result.items ≡ canonical_header packet.now.value }
-    ensures small { array_vec_len result ≤ 96 }
-    ensures fits { array_vec_len result + length (concat packet.now.value.frames) ≤ 61295 }
+/// Appends the header of the canonical form: at most 96 bytes.
+#[inline(always)]
+pub fn push_canon_header<const N: usize>(packet: &Packet<'_>, header: &mut ArrayVec<u8, N>)
+    requires { array_vec_len header.old + 96 ≤ N }
+    ensures bytes { header.new.items ≡ header.old.items ++ canonical_header packet.now.value }
+    ensures most { array_vec_len header.new ≤ array_vec_len header.old + 96 }
 {
-    let lengths = lengths_of(packet);
-    let shape = canon_shape(lengths.as_slice());
-    header_in(packet.toc(), shape, lengths.as_slice())
+    let lens = packet.lens();
+    push_header(packet.toc(), lens.canonical_shape(), &lens, header);
 }
 
-/// The header of the canonical self-delimited form (RFC 6716, Appendix B): the last frame's length stands
-/// behind it.
-pub(crate) fn canon_self_header(packet: &Packet<'_>) -> ArrayVec<u8, 98>
-    ensures bytes { result.items ≡ canonical_self_header packet.now.value }
-    ensures fits { array_vec_len result + length (concat packet.now.value.frames) ≤ 61297 }
+/// Appends the header of the canonical self-delimited form: at most 98 bytes.
+#[inline(always)]
+pub fn push_canon_self_header<const N: usize>(packet: &Packet<'_>, header: &mut ArrayVec<u8, N>)
+    requires { array_vec_len header.old + 98 ≤ N }
+    ensures bytes { header.new.items ≡ header.old.items ++ canonical_self_header packet.now.value }
+    ensures most { array_vec_len header.new ≤ array_vec_len header.old + 98 }
 {
-    let last = packet.frame(packet.count() - 1).len();
-    let mut header = canon_header(packet);
-    push_length(last as u16, &mut header);
-    header
+    push_canon_header(packet, header);
+    push_length(packet.lens().last_len(), header);
 }
 
-// The length of each frame.
-fn lengths_of(packet: &Packet<'_>) -> ArrayVec<u16, 48>
-    ensures lengths { result.items ≡ map length packet.now.value.frames }
-    ensures each { All (λ n. n ≤ max_frame) result.items }
-    ensures some { 1 ≤ array_vec_len result }
+/// Appends the header of the kept form with `tail` padding bytes: at most 355 bytes.
+#[inline(always)]
+pub fn push_keep_header<const N: usize>(
+    packet: &Packet<'_>,
+    tail: u32,
+    header: &mut ArrayVec<u8, N>,
+)
+    requires tail { tail ≤ max_tail }
+    requires room { array_vec_len header.old + 355 ≤ N }
+    ensures bytes { header.new.items ≡ header.old.items ++ keep_header packet.now.value tail }
+    ensures most { array_vec_len header.new ≤ array_vec_len header.old + 355 }
 {
-    let mut lengths = ArrayVec::new();
-    for i in 0..packet.count() {
-        lengths.push(packet.frame(i).len() as u16);
-    }
-    lengths
+    let lens = packet.lens();
+    push_header(packet.toc(), lens.keep_shape(tail), &lens, header);
 }
 
-// How the canonical form spells frames of these lengths.
-fn canon_shape(lengths: &[u16]) -> Shape
-    requires { 1 ≤ length lengths.now }
-    ensures { result ≡ canonical_shape lengths.now }
+/// Appends the header of the kept self-delimited form with `tail` padding bytes: at most 357 bytes.
+#[inline(always)]
+pub fn push_keep_self_header<const N: usize>(
+    packet: &Packet<'_>,
+    tail: u32,
+    header: &mut ArrayVec<u8, N>,
+)
+    requires tail { tail ≤ max_tail }
+    requires room { array_vec_len header.old + 357 ≤ N }
+    ensures bytes { header.new.items ≡ header.old.items ++ keep_self_header packet.now.value tail }
+    ensures most { array_vec_len header.new ≤ array_vec_len header.old + 357 }
 {
-    let (code, vbr) = match lengths {
-        [_] => (0, false),
-        [first, second] if first == second => (1, false),
-        [_, _] => (2, false),
-        _ => (3, !have_one_length(lengths)),
-    };
-    Shape { code, vbr, pad: 0 }
+    push_keep_header(packet, tail, header);
+    push_length(packet.lens().last_len(), header);
 }
 
-// Whether all lengths are one.
-fn have_one_length(lengths: &[u16]) -> bool
-    ensures { result ≡ have_one_length lengths.now }
-{
-    match lengths {
-        [first, rest @ ..] => are_all(*first, rest),
-        [] => true,
-    }
-}
-
-// Whether all lengths are the first.
-fn are_all(first: u16, rest: &[u16]) -> bool
-    ensures { result ≡ list_all (λ length. length == first) rest.now }
-{
-    rest.iter().all(|&length| length == first)
-}
-
-// The header of a packet with frames of these lengths, in a shape without padding.
-fn header_in(toc: Toc, shape: Shape, lengths: &[u16]) -> ArrayVec<u8, 98>
+// Appends the header of a packet with frames of these lengths in a shape (RFC 6716, 3.2).
+#[inline(always)]
+fn push_header<const N: usize>(
+    toc: Toc,
+    shape: Shape,
+    lens: &Lens<'_>,
+    header: &mut ArrayVec<u8, N>,
+)
     requires code { shape.code < 4 }
-    requires plain { shape.pad ≡ 0 }
-    requires some { 1 ≤ length lengths.now }
-    requires most { length lengths.now ≤ 48 }
-    requires each { All (λ n. n ≤ max_frame) lengths.now }
-    ensures bytes { result.items ≡ header_bytes (header_in toc.config toc.stereo shape lengths.now) }
-    ensures small { array_vec_len result ≤ 96 }
+    requires pad { shape.pad < 2 ^ 24 }
+    requires some { 1 ≤ length lens.now }
+    requires room { array_vec_len header.old + 96 + length (padding_length shape.pad) ≤ N }
+    ensures bytes { header.new.items
+        ≡ header.old.items ++ header_bytes (header_in toc.config toc.stereo shape lens.now) }
+    ensures most { array_vec_len header.new
+        ≤ array_vec_len header.old + 96 + length (padding_length shape.pad) }
 {
-    let mut header = front(toc, shape, lengths.len() as u8);
-    push_lengths(given(shape, lengths), &mut header);
-    header
-}
-
-// The TOC byte, and the count byte of code 3 (RFC 6716, 3.1 and 3.2.5).
-fn front(toc: Toc, shape: Shape, count: u8) -> ArrayVec<u8, 98>
-    requires code { shape.code < 4 }
-    requires plain { shape.pad ≡ 0 }
-    requires most { count ≤ 48 }
-    ensures items { result.items
-        ≡ toc_byte toc.config toc.stereo shape.code ∷ count_and_padding shape count }
-    ensures len { array_vec_len result ≤ 2 }
-{
-    let mut header = ArrayVec::new();
     header.push(Toc::new(toc.config, toc.stereo, shape.code).to_byte());
+    push_count(shape, lens.len() as u8, header);
+    if gives_lens(shape) {
+        push_lens(lens, header);
+    }
+}
+
+// Appends the count byte of code 3 and the padding length (RFC 6716, 3.2.5).
+#[inline(always)]
+fn push_count<const N: usize>(shape: Shape, count: u8, header: &mut ArrayVec<u8, N>)
+    requires count { count ≤ 48 }
+    requires pad { shape.pad < 2 ^ 24 }
+    requires room { array_vec_len header.old + 1 + length (padding_length shape.pad) ≤ N }
+    ensures bytes { header.new.items ≡ header.old.items ++ count_and_padding shape count }
+    ensures most { array_vec_len header.new
+        ≤ array_vec_len header.old + 1 + length (padding_length shape.pad) }
+{
     if shape.code == 3 {
-        header.push(if shape.vbr { 128 + count } else { count });
+        header.push(count_byte(shape, count));
+        if shape.pad > 0 {
+            push_pad(shape.pad, header);
+        }
     }
-    header
 }
 
-// The lengths that stand in the header.
-fn given(shape: Shape, lengths: &[u16]) -> &[u16]
-    requires { 1 ≤ length lengths.now }
-    ensures { result.now ≡ given_lengths (sizes_for shape lengths.now) }
+/// The count byte of code 3: VBR, padding, and the number of frames, at most 48.
+#[inline(always)]
+pub(crate) fn count_byte(shape: Shape, count: u8) -> u8
+    requires { count ≤ 48 }
+    ensures { result ≡ count_byte shape count }
 {
-    if shape.code == 2 || shape.vbr {
-        &lengths[..lengths.len() - 1]
-    } else {
-        &[]
-    }
+    let vbr = if shape.vbr { 128 } else { 0 };
+    let padded = if shape.pad > 0 { 64 } else { 0 };
+    vbr + padded + count
 }
 
-// Puts frame lengths behind a header.
-fn push_lengths(lengths: &[u16], header: &mut ArrayVec<u8, 98>)
-    requires each { All (λ n. n ≤ max_frame) lengths.now }
-    requires room { array_vec_len header.old + 2 * length lengths.now ≤ 96 }
-    ensures items { header.new.items ≡ header.old.items ++ flat_map length_bytes lengths.now }
-    ensures len { array_vec_len header.new ≤ array_vec_len header.old + 2 * length lengths.now }
+// Appends a padding length.
+fn push_pad<const N: usize>(pad: u32, header: &mut ArrayVec<u8, N>)
+    requires some { 1 ≤ pad }
+    requires most { pad < 2 ^ 24 }
+    requires room { array_vec_len header.old + length (padding_length pad) ≤ N }
+    ensures bytes { header.new.items ≡ header.old.items ++ padding_length pad }
 {
-    for length in lengths {
-        push_length(*length, header);
+    let parts = pad_parts(pad);
+    for _ in 0..parts.full {
+        header.push(255);
+    }
+    header.push(parts.last);
+}
+
+/// Appends the lengths of all frames but the last, at most 94 bytes: as one piece where they are spelled somewhere.
+#[inline(always)]
+pub fn push_lens<const N: usize>(lens: &Lens<'_>, header: &mut ArrayVec<u8, N>)
+    requires some { 1 ≤ length lens.now }
+    requires room { array_vec_len header.old + 94 ≤ N }
+    ensures bytes { header.new.items
+        ≡ header.old.items ++ flat_map length_bytes (take (length lens.now - 1) lens.now) }
+    ensures most { array_vec_len header.new ≤ array_vec_len header.old + 94 }
+{
+    match lens.spelled() {
+        Some(bytes) => header.try_extend_from_slice(bytes).unwrap(),
+        None => push_listed(lens, header),
     }
 }
 
-// Puts a frame length behind a header.
-fn push_length(length: u16, header: &mut ArrayVec<u8, 98>)
+// Appends the lengths of all frames but the last, one by one.
+fn push_listed<const N: usize>(lens: &Lens<'_>, header: &mut ArrayVec<u8, N>)
+    requires some { 1 ≤ length lens.now }
+    requires room { array_vec_len header.old + 94 ≤ N }
+    ensures bytes { header.new.items
+        ≡ header.old.items ++ flat_map length_bytes (take (length lens.now - 1) lens.now) }
+    ensures most { array_vec_len header.new ≤ array_vec_len header.old + 94 }
+{
+    let mut rest = lens.again();
+    for _ in 1..lens.len() {
+        if let Some(len) = rest.next() {
+            push_length(len, header);
+        }
+    }
+}
+
+// Appends a frame length (RFC 6716, 3.2.1).
+#[inline(always)]
+fn push_length<const N: usize>(length: u16, header: &mut ArrayVec<u8, N>)
     requires frame { length ≤ max_frame }
-    requires room { array_vec_len header.old ≤ 96 }
-    ensures items { header.new.items ≡ header.old.items ++ length_bytes length }
-    ensures len { array_vec_len header.new ≤ array_vec_len header.old + 2 }
+    requires room { array_vec_len header.old + 2 ≤ N }
+    ensures bytes { header.new.items ≡ header.old.items ++ length_bytes length }
+    ensures most { array_vec_len header.new ≤ array_vec_len header.old + 2 }
 {
     header
         .try_extend_from_slice(len_bytes(length).as_slice())

@@ -10,7 +10,7 @@ mod status;
 mod tests;
 
 use crate::arguments::words_of;
-use crate::run::{MAX_INPUT, run};
+use crate::run::{max_input, run};
 use opus_io::{FromRead, ToWrite};
 use std::process::ExitCode;
 
@@ -24,7 +24,7 @@ fn main(rt: HostRuntime) -> ExitCode {
             run(
                 rt.alloc(),
                 words,
-                MAX_INPUT,
+                max_input(),
                 &mut source,
                 &mut out,
                 &mut note,

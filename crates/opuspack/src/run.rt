@@ -12,8 +12,14 @@ use opus_words::{Ending, WordsFault, job_of};
 use pack_jobs::pack_job;
 use std::alloc::Global;
 
-/// Most bytes of input that the program takes: 2^40.
-pub const MAX_INPUT: u64 = 1_099_511_627_776;
+const MAX_INPUT: u64 = 1_099_511_627_776;
+
+/// Most bytes of input that the program takes.
+pub fn max_input() -> u64
+    ensures { result ≡ 2 ^ 40 }
+{
+    MAX_INPUT
+}
 
 /// Does what `words`, the arguments without the program's name, ask for: reads `source` up to `limit` bytes,
 /// writes to `out`, and tells in one line of `note` how it ended, where it didn't end well.

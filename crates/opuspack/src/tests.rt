@@ -1,7 +1,7 @@
 //! The worked cases of the program, as tables. Each row runs with sources of several steps.
 ghost use Rattle.std.specs.Prelude.{◌≤◌};
 
-use crate::run::{MAX_INPUT, run};
+use crate::run::{max_input, run};
 use crate::status::Status;
 use opus_io::{MemorySink, MemorySource};
 use std::alloc::Global;
@@ -41,7 +41,7 @@ fn is_met(alloc: Global, row: &Row, step: usize) -> Result<bool, Fail>
     let status = run(
         alloc,
         words.as_slice(),
-        MAX_INPUT,
+        max_input(),
         &mut source,
         &mut out,
         &mut note,

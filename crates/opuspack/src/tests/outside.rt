@@ -1,6 +1,6 @@
 //! Long inputs, limits, and faults of the outside.
 use super::words_of;
-use crate::run::{MAX_INPUT, run};
+use crate::run::{max_input, run};
 use crate::status::Status;
 use opus_io::{MemorySink, MemorySource, SteadySink, SteadySource};
 use std::alloc::Global;
@@ -23,7 +23,7 @@ fn norm(
     output: &[u8],
     text: &str,
 ) -> Result<Option<Status>, Fail> {
-    if limit == 0 || limit > MAX_INPUT {
+    if limit == 0 || limit > max_input() {
         return Ok(None);
     }
     let words = words_of(alloc, &["norm"])?;
@@ -50,23 +50,26 @@ fn knows_long_packets_and_the_limit(rt: HostRuntime) -> Result<(), Fail> {
     let padded = long(alloc, b"\xfb\x41\xfe\xaa", 0, 254)?;
     let twice = long(alloc, b"\xfb\x41\xff\x00\xaa", 0, 254)?;
     let endless = long(alloc, b"\xfb\x41", 255, 65793)?;
-    assert_eq!(rt; norm(alloc, &most, MAX_INPUT, &most, "")?, Some(Status::Ok));
+    assert_eq!(rt;
+        norm(alloc, &most, max_input(), &most, "")?,
+        Some(Status::Ok)
+    );
     let note = "opuspack: refused: record 0 at 1276: R2 at 1276\n";
     assert_eq!(rt;
-        norm(alloc, &over, MAX_INPUT, b"", note)?,
+        norm(alloc, &over, max_input(), b"", note)?,
         Some(Status::Refused)
     );
     assert_eq!(rt;
-        norm(alloc, &padded, MAX_INPUT, b"\xf8\xaa", "")?,
+        norm(alloc, &padded, max_input(), b"\xf8\xaa", "")?,
         Some(Status::Ok)
     );
     assert_eq!(rt;
-        norm(alloc, &twice, MAX_INPUT, b"\xf8\xaa", "")?,
+        norm(alloc, &twice, max_input(), b"\xf8\xaa", "")?,
         Some(Status::Ok)
     );
     let note = "opuspack: refused: record 0 at 65794: PadLimit at 65794\n";
     assert_eq!(rt;
-        norm(alloc, &endless, MAX_INPUT, b"", note)?,
+        norm(alloc, &endless, max_input(), b"", note)?,
         Some(Status::Refused)
     );
     let short = long(alloc, b"\xf8", 0, 64)?;
@@ -95,7 +98,7 @@ fn norm_with_faults(
     let status = run(
         alloc,
         words.as_slice(),
-        MAX_INPUT,
+        max_input(),
         &mut source,
         &mut out,
         &mut note,

@@ -9,7 +9,7 @@ pub read_given-requires-clause-most : goal.read_given-requires-clause-most
 read_given-requires-clause-most c =
     let a = c.args in
     let count = counts a.first a.count c.requires.count in
-    omega (arith, c.from.ensures, frames-most (config_of a.first) (a.count % 64) (omega (arith, c.ranges.first)) count.1)
+    omega (arith, frames-most (config_of a.first) (a.count % 64) (omega (arith, c.ranges.first)) count.1)
 
 pub returns-else-shape : goal.returns-else-shape
 returns-else-shape c =

@@ -1,0 +1,8 @@
+use Rattle.std.proofs.Common.{◌++◌}
+use Rattle.opus_writer.proofs.PutsLemmas.{Puts-then}
+use Rattle.opus_writer.proofs.put.put_three.Goals as goal
+
+pub returns-clause-bytes : goal.returns-clause-bytes
+returns-clause-bytes g c =
+    Puts-then (g.O.Sink.contents c.args.sink.now) (g.O.Sink.contents c.put_two.new.sink) (g.O.Sink.contents c.write_all.new.sink) (c.args.first.now ++ c.args.second.now) c.args.third.now c.write_all.result c.in_ok-put_two.ensures.bytes.ok
+    (record { ok = c.write_all.ensures.ok; front = c.write_all.ensures.front })

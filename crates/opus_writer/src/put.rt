@@ -1,0 +1,100 @@
+//! The written forms to a sink: a few pieces, with no list between.
+ghost use Rattle.opus_packet.specs.Tail.{IsKept, kept_bytes};
+ghost use Rattle.opus_packet.specs.Canonical.{canonical, canonical_self_delimited, kept_form, kept_self_delimited};
+ghost use Rattle.std.specs.Prelude.{◌++◌};
+ghost use Rattle.opus_io.specs.Sink.{SinkCause};
+ghost use Rattle.opus_writer.specs.Puts.{Puts};
+
+use crate::header::{
+    push_canon_header, push_canon_self_header, push_keep_header, push_keep_self_header,
+};
+use crate::size::tail_bytes;
+use arrayvec::ArrayVec;
+use opus_io::{Sink, SinkStop, write_all};
+use opus_packet::Packet;
+
+/// Writes the canonical form. A stop is the sink's own, and after it a front of the form is written; it takes no
+/// memory of its own.
+#[inline(always)]
+pub fn put_canon<O: Sink>(packet: &Packet<'_>, sink: &mut O) -> Result<(), SinkStop>
+    ensures bytes { Puts (O.contents sink.old) (O.contents sink.new)
+        (canonical packet.now.value) result }
+    ensures cause { SinkCause (O.faults sink.old) (O.faults sink.new)
+        (O.refusals sink.old) (O.refusals sink.new) result }
+{
+    let mut header: ArrayVec<u8, 98> = ArrayVec::new();
+    push_canon_header(packet, &mut header);
+    put_two(header.as_slice(), packet.body(), sink)
+}
+
+/// Writes the canonical self-delimited form, with stops as those of `put_canon`.
+#[inline(always)]
+pub fn put_canon_self<O: Sink>(packet: &Packet<'_>, sink: &mut O) -> Result<(), SinkStop>
+    ensures bytes { Puts (O.contents sink.old) (O.contents sink.new)
+        (canonical_self_delimited packet.now.value) result }
+    ensures cause { SinkCause (O.faults sink.old) (O.faults sink.new)
+        (O.refusals sink.old) (O.refusals sink.new) result }
+{
+    let mut header: ArrayVec<u8, 98> = ArrayVec::new();
+    push_canon_self_header(packet, &mut header);
+    put_two(header.as_slice(), packet.body(), sink)
+}
+
+/// Writes the kept form, with stops as those of `put_canon`.
+#[inline(always)]
+pub fn put_keep<O: Sink>(packet: &Packet<'_>, sink: &mut O) -> Result<(), SinkStop>
+    requires { IsKept packet.now.tail }
+    ensures bytes { Puts (O.contents sink.old) (O.contents sink.new)
+        (kept_form packet.now.value (kept_bytes packet.now.tail)) result }
+    ensures cause { SinkCause (O.faults sink.old) (O.faults sink.new)
+        (O.refusals sink.old) (O.refusals sink.new) result }
+{
+    let tail = tail_bytes(packet);
+    let mut header: ArrayVec<u8, 360> = ArrayVec::new();
+    push_keep_header(packet, tail.len() as u32, &mut header);
+    put_three(header.as_slice(), packet.body(), tail, sink)
+}
+
+/// Writes the kept self-delimited form, with stops as those of `put_canon`.
+#[inline(always)]
+pub fn put_keep_self<O: Sink>(packet: &Packet<'_>, sink: &mut O) -> Result<(), SinkStop>
+    requires { IsKept packet.now.tail }
+    ensures bytes { Puts (O.contents sink.old) (O.contents sink.new)
+        (kept_self_delimited packet.now.value (kept_bytes packet.now.tail)) result }
+    ensures cause { SinkCause (O.faults sink.old) (O.faults sink.new)
+        (O.refusals sink.old) (O.refusals sink.new) result }
+{
+    let tail = tail_bytes(packet);
+    let mut header: ArrayVec<u8, 360> = ArrayVec::new();
+    push_keep_self_header(packet, tail.len() as u32, &mut header);
+    put_three(header.as_slice(), packet.body(), tail, sink)
+}
+
+// Writes one piece behind another.
+#[inline(always)]
+fn put_two<O: Sink>(first: &[u8], second: &[u8], sink: &mut O) -> Result<(), SinkStop>
+    ensures bytes { Puts (O.contents sink.old) (O.contents sink.new)
+        (first.now ++ second.now) result }
+    ensures cause { SinkCause (O.faults sink.old) (O.faults sink.new)
+        (O.refusals sink.old) (O.refusals sink.new) result }
+{
+    write_all(sink, first)?;
+    write_all(sink, second)
+}
+
+// Writes three pieces, one behind another.
+#[inline(always)]
+fn put_three<O: Sink>(
+    first: &[u8],
+    second: &[u8],
+    third: &[u8],
+    sink: &mut O,
+) -> Result<(), SinkStop>
+    ensures bytes { Puts (O.contents sink.old) (O.contents sink.new)
+        (first.now ++ second.now ++ third.now) result }
+    ensures cause { SinkCause (O.faults sink.old) (O.faults sink.new)
+        (O.refusals sink.old) (O.refusals sink.new) result }
+{
+    put_two(first, second, sink)?;
+    write_all(sink, third)
+}
