@@ -1,0 +1,15 @@
+pub mod GivenLemmas
+pub mod LedLemmas
+pub mod HeadLemmas
+pub mod OpenLemmas
+pub mod SmallLemmas
+pub mod RefuseLemmas
+pub mod FillLemmas
+pub mod OpenedLemmas
+pub mod AnswerLemmas
+pub mod EndLemmas
+pub mod TailLemmas
+pub mod PacketLemmas
+pub mod LenLemmas
+pub mod HoldingLemmas
+pub mod StandardFacts

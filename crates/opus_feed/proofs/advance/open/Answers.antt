@@ -1,0 +1,129 @@
+use Rattle.std.proofs.Common.{◌≡◌, ◌+◌, ◌-◌, ◌++◌, length, take, vec_len, arith, subst, ap, ◌∙◌}
+use Rattle.std.proofs.lemmas.List.{take_rest}
+use Rattle.opus_packet.specs.Header.{Header, body_size}
+use Rattle.opus_feed.specs.Heads.{IsSound, spelling}
+use Rattle.opus_feed.specs.Places.{IsFilling}
+use Rattle.opus_feed.specs.declared.stage.Stage.TheVariants.{BadCount, BadPadding}
+use Rattle.opus_feed.proofs.FillLemmas.{begun, filled, steady_behind}
+use Rattle.opus_feed.proofs.OpenedLemmas.{opened_front, opened_small, opened_stands, opened_all, open_from, refused_steady, refused_stands, bad_count_stands, bad_padding_stands}
+use Rattle.opus_feed.proofs.advance.open.Goals as goal
+
+pub fill-moved-requires-clause-front : goal.fill-moved-requires-clause-front
+fill-moved-requires-clause-front c =
+    let a = c.args in
+    let t = c.take-taken in
+    let small = opened_small a.framing a.stage t.result.stage a.head.now t.new.self a.piece.now a.body.now.front t.result.used
+    c.requires.front_is t.ensures.within t.ensures.spelled t.ensures.sound in
+    omega (arith, c.start.ensures.others.front_is)
+
+-- the body behind the header
+started : (c : goal.After-struct_known-in-Ready-2-1)
+    → IsFilling c.args.framing c.args.padding c.take-taken.new.self c.start.new.self
+started c =
+    let a = c.args in
+    let t = c.take-taken in
+    let others = c.start.ensures.others in
+    let sound = subst (λ s. IsSound a.framing s t.new.self) c.in-Ready.is t.ensures.sound in
+    let front = opened_front a.framing a.stage t.result.stage a.head.now t.new.self a.piece.now a.body.now.front t.result.used
+    c.requires.front_is t.ensures.within t.ensures.spelled in
+    let small = opened_small a.framing a.stage t.result.stage a.head.now t.new.self a.piece.now a.body.now.front t.result.used
+    c.requires.front_is t.ensures.within t.ensures.spelled t.ensures.sound in
+    begun a.framing a.padding t.new.self c.start.new.self c.body_size.result c.header-header.result.tail sound
+    (others.front_is ∙ front ∙ ap (λ s. length (spelling a.framing s t.new.self)) c.in-Ready.is)
+    (omega (arith, others.front_is, small)) (others.came_is ∙ c.requires.none) (others.kept_is ∙ c.requires.none_kept)
+    (ap (λ b. vec_len b) others.bytes_are ∙ c.requires.memory)
+    (c.body_size.ensures.size ∙ ap (λ (h : Header). body_size h.sizes t.new.self.last) c.header-header.ensures.value) c.body_size.ensures.small c.header-header.ensures.tail c.header-header.ensures.small
+    c.start.ensures.limit c.start.ensures.room
+
+pub returns-in-Ready-clause-steady : goal.returns-in-Ready-clause-steady
+returns-in-Ready-clause-steady c =
+    let f = c.fill-moved in
+    steady_behind c.args.framing c.args.padding c.take-taken.new.self f.new.body _ f.result.used f.result.place
+    (filled (started c) f.ensures.fills) f.ensures.place
+
+pub returns-in-Ready-clause-stands : goal.returns-in-Ready-clause-stands
+returns-in-Ready-clause-stands c =
+    let a = c.args in
+    let t = c.take-taken in
+    let f = c.fill-moved in
+    let others = c.start.ensures.others in
+    let spelled = subst (λ s. spelling a.framing s t.new.self ≡ spelling a.framing a.stage a.head.now ++ take t.result.used a.piece.now) c.in-Ready.is t.ensures.spelled in
+    λ bytes are_bytes are.
+    opened_stands a.framing a.padding a.stage a.head.now t.new.self a.piece.now _ t.result.used
+    c.start.new.self f.new.body f.result.used f.result.place spelled (take_rest a.piece.now t.result.used)
+    (others.came_is ∙ c.requires.none) (others.kept_is ∙ c.requires.none_kept) (started c)
+    f.ensures.fills f.ensures.place bytes are
+
+pub returns-in-BadCount-clause-steady : goal.returns-in-BadCount-clause-steady
+returns-in-BadCount-clause-steady c =
+    let a = c.args in
+    let t = c.take-taken in
+    let r = c.refuse in
+    let small = opened_small a.framing a.stage t.result.stage a.head.now t.new.self a.piece.now a.body.now.front t.result.used
+    c.requires.front_is t.ensures.within t.ensures.spelled t.ensures.sound in
+    refused_steady a.framing a.padding t.new.self r.result.place _ a.body.now r.new.body (a.body.now.front + t.result.used - 1) r.ensures.place r.ensures.front
+    (omega arith) c.requires.none c.requires.none_kept c.requires.memory
+
+pub returns-in-BadCount-clause-stands : goal.returns-in-BadCount-clause-stands
+returns-in-BadCount-clause-stands c =
+    let a = c.args in
+    let t = c.take-taken in
+    let r = c.refuse in
+    let spelled = subst (λ s. spelling a.framing s t.new.self ≡ spelling a.framing a.stage a.head.now ++ take t.result.used a.piece.now) c.in-BadCount.is t.ensures.spelled in
+    let sound = subst (λ s. IsSound a.framing s t.new.self) c.in-BadCount.is t.ensures.sound in
+    let size = opened_front a.framing a.stage BadCount a.head.now t.new.self a.piece.now a.body.now.front t.result.used
+    c.requires.front_is t.ensures.within spelled in
+    λ bytes are_bytes are.
+    refused_stands a.framing t.new.self r.result.place _ a.body.now r.new.body (a.body.now.front + t.result.used - 1) (bytes ++ a.piece.now) r.ensures.place r.ensures.front
+    c.requires.none
+    (bad_count_stands a.framing a.stage a.head.now t.new.self a.piece.now t.result.used (a.body.now.front + t.result.used - 1) spelled sound (omega arith) bytes are)
+
+pub returns-in-BadPadding-clause-steady : goal.returns-in-BadPadding-clause-steady
+returns-in-BadPadding-clause-steady c =
+    let a = c.args in
+    let t = c.take-taken in
+    let r = c.refuse-in-BadPadding in
+    let small = opened_small a.framing a.stage t.result.stage a.head.now t.new.self a.piece.now a.body.now.front t.result.used
+    c.requires.front_is t.ensures.within t.ensures.spelled t.ensures.sound in
+    refused_steady a.framing a.padding t.new.self r.result.place _ a.body.now r.new.body (a.body.now.front + t.result.used - 1) r.ensures.place r.ensures.front
+    (omega arith) c.requires.none c.requires.none_kept c.requires.memory
+
+pub returns-in-BadPadding-clause-stands : goal.returns-in-BadPadding-clause-stands
+returns-in-BadPadding-clause-stands c =
+    let a = c.args in
+    let t = c.take-taken in
+    let r = c.refuse-in-BadPadding in
+    let spelled = subst (λ s. spelling a.framing s t.new.self ≡ spelling a.framing a.stage a.head.now ++ take t.result.used a.piece.now) c.in-BadPadding.is t.ensures.spelled in
+    let sound = subst (λ s. IsSound a.framing s t.new.self) c.in-BadPadding.is t.ensures.sound in
+    let size = opened_front a.framing a.stage BadPadding a.head.now t.new.self a.piece.now a.body.now.front t.result.used
+    c.requires.front_is t.ensures.within spelled in
+    λ bytes are_bytes are.
+    refused_stands a.framing t.new.self r.result.place _ a.body.now r.new.body (a.body.now.front + t.result.used - 1) (bytes ++ a.piece.now) r.ensures.place r.ensures.front
+    c.requires.none
+    (bad_padding_stands a.framing a.stage a.head.now t.new.self a.piece.now t.result.used (a.body.now.front + t.result.used - 1) spelled sound (omega arith) bytes are)
+
+pub returns-in_default : goal.returns-in_default
+returns-in_default c =
+    let a = c.args in
+    let t = c.take-taken in
+    let open_is = open_from t.result.stage c.in_default.not-Ready c.in_default.not-BadCount c.in_default.not-BadPadding in
+    let front = opened_front a.framing a.stage t.result.stage a.head.now t.new.self a.piece.now a.body.now.front t.result.used
+    c.requires.front_is t.ensures.within t.ensures.spelled in
+    let small = opened_small a.framing a.stage t.result.stage a.head.now t.new.self a.piece.now a.body.now.front t.result.used
+    c.requires.front_is t.ensures.within t.ensures.spelled t.ensures.sound in
+    record {
+      steady = record {
+        open_is = open_is;
+        sound = t.ensures.sound;
+        front_is = front;
+        small = small;
+        none = c.requires.none;
+        none_kept = c.requires.none_kept;
+        memory = c.requires.memory;
+      };
+      stands = λ bytes are_bytes are.
+          opened_all a.framing a.stage t.result.stage a.head.now t.new.self a.piece.now t.result.used
+          t.ensures.spelled (t.ensures.all open_is) bytes are;
+      moved = omega arith;
+      within = t.ensures.within;
+    }

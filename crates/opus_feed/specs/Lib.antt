@@ -1,0 +1,13 @@
+pub mod Stage
+pub mod Heads
+pub mod Bodies
+pub mod Places
+pub mod Steps
+pub mod Packets
+pub mod Stands
+pub mod Advance
+pub mod Feeds
+pub mod Answers
+pub mod Rules
+pub mod Tails
+pub mod Holding
