@@ -1,0 +1,13 @@
+pub mod Shown
+pub mod Meaning
+pub mod Causes
+pub mod Telling
+pub mod Forms
+pub mod Turns
+pub mod Ran
+pub mod Reading
+pub mod FirstFault
+pub mod Gathered
+pub mod Samples
+pub mod SampleLaws
+pub mod SampleJobs
