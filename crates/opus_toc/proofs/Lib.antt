@@ -1,3 +1,4 @@
 pub mod Table
 pub mod TocLemmas
+pub mod FlagLemmas
 pub mod StandardFacts

@@ -1,8 +1,9 @@
 -- The standard's own figures, computed by the definitions.
-use Rattle.std.proofs.Common.{◌≡◌, ℕ, ◌*◌, ◌/◌, true, false, List, [], ◌∷◌, ◌++◌, map, refl}
+use Rattle.std.proofs.Common.{◌≡◌, ℕ, ◌*◌, ◌/◌, true, false, List, [], ◌∷◌, ◌++◌, map, Some, None, refl}
 use Rattle.std.specs.List.{range_with_len}
 use Rattle.opus_toc.specs.Toc.{toc_byte}
 use Rattle.opus_toc.specs.Configuration.{row_of, samples_of, mode_of, bandwidth_of}
+use Rattle.opus_toc.specs.Flags.{silk_frames_in, flags_in, silk_flags}
 use Rattle.opus_toc.specs.declared.toc.Mode.TheVariants.{Silk, Hybrid, Celt}
 use Rattle.opus_toc.specs.declared.toc.Band.{Band}
 use Rattle.opus_toc.specs.declared.toc.Band.TheVariants.{Narrow, Medium, Wide, SuperWide, Full}
@@ -53,3 +54,34 @@ two_full_mono_hybrid_frames = refl
 
 four_full_stereo_celt_frames : toc_byte 31 true 3 ≡ 255
 four_full_stereo_celt_frames = refl
+
+-- SILK frames of 10, 20, 40 and 60 milliseconds (RFC 6716, 4.2.2)
+silk_frames-by_size : map (λ tenths. silk_frames_in (48 * tenths / 10)) silk_sizes ≡ 1 ∷ 1 ∷ 2 ∷ 3 ∷ []
+unfolding silk_sizes
+silk_frames-by_size = refl
+
+-- flags (RFC 6716, 4.2.3): VAD of each SILK frame, then LBRR, mid before side, from the highest bit down
+
+redundancy_of_one_mono_frame : silk_flags 1 false 0x40
+    ≡ Some (record { silk_frames = 1; vad_mid = 0; lbrr_mid = true; vad_side = 0; lbrr_side = false })
+unfolding samples_of mode_of row_of
+redundancy_of_one_mono_frame = refl
+
+redundancy_of_three_stereo_frames : silk_flags 3 true 0x11
+    ≡ Some (record { silk_frames = 3; vad_mid = 0; lbrr_mid = true; vad_side = 0; lbrr_side = true })
+unfolding samples_of mode_of row_of
+redundancy_of_three_stereo_frames = refl
+
+-- of two SILK frames the first alone is active in mid, and the second alone in side
+activity_of_two_stereo_frames : flags_in 2 true 0x88
+    ≡ record { silk_frames = 2; vad_mid = 2; lbrr_mid = false; vad_side = 1; lbrr_side = false }
+activity_of_two_stereo_frames = refl
+
+hybrid_frames_have_flags : silk_flags 15 true 0xA0
+    ≡ Some (record { silk_frames = 1; vad_mid = 1; lbrr_mid = false; vad_side = 1; lbrr_side = false })
+unfolding samples_of mode_of row_of
+hybrid_frames_have_flags = refl
+
+celt_frames_have_none : silk_flags 31 true 0xFF ≡ None
+unfolding samples_of mode_of row_of
+celt_frames_have_none = refl

@@ -98,3 +98,6 @@ samples-positive config known = let least = samples-least config known in omega 
 
 -- the mode and the bandwidth of each range
 pub ruleset ranges = (mode_of-by_range, bandwidth_of-low, bandwidth_of-high)
+
+-- a frame has 120 to 2,880 samples
+pub ruleset bounds = (samples-least, samples-most)

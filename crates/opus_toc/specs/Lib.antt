@@ -1,2 +1,3 @@
 pub mod Toc
 pub mod Configuration
+pub mod Flags

@@ -1,0 +1,11 @@
+pub mod MagicLemmas
+pub mod CheckLemmas
+pub mod MappingLemmas
+pub mod NoFaultLemmas
+pub mod NumberLemmas
+pub mod SpelledLemmas
+pub mod ReadingLemmas
+pub mod WriteLemmas
+pub mod StandardFacts
+pub mod LongerLemmas
+pub mod LongerHeadLemmas

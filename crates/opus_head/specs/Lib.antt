@@ -1,0 +1,9 @@
+pub mod ChannelCount
+pub mod HeadValue
+pub mod HeadBytes
+pub mod HeadFault
+pub mod Channel
+pub mod Factors
+pub mod Checks
+pub mod HeadRead
+pub mod Inside
