@@ -1,0 +1,5 @@
+pub mod RtpValue
+pub mod RtpBytes
+pub mod RtpFault
+pub mod RtpRead
+pub mod Checks
