@@ -1,5 +1,5 @@
 #!/usr/bin/env python3
-"""Costs of the jobs on large `opus_demo` stores of this script's own making; bench/README.md says what is printed."""
+"""Costs of the jobs on large inputs of this script's own making; bench/README.md says what is printed."""
 import os
 import pathlib
 import re
@@ -13,7 +13,12 @@ import time
 
 TOP = pathlib.Path(__file__).resolve().parent.parent
 PROGRAM = TOP / "crates/opuspack/out/opuspack"
-JOBS = [["norm", "--form", "demo"], ["check", "--form", "demo"]]
+JOBS = [
+    ["norm", "--form", "demo"],
+    ["norm", "--form", "demo", "--padding", "keep"],
+    ["check", "--form", "demo"],
+    ["norm", "--form", "self"],
+]
 
 
 def single(k):
@@ -36,17 +41,47 @@ def spelled(k):
 
 STORES = {"180 to 220 bytes": single, "5 to 60 bytes": short, "48 spelled frames": spelled}
 
+# Instructions a packet that are to be reached.
+GOALS = {
+    ("norm", "180 to 220 bytes"): 320,
+    ("norm", "5 to 60 bytes"): 290,
+    ("norm", "48 spelled frames"): 1_750,
+    ("check", "180 to 220 bytes"): 270,
+}
 
-def store(path, count, payload):
-    """Writes a store with so many records, and answers the payload bytes."""
+
+def spelled_length(size):
+    """A frame's length as RFC 6716, 3.2.1 spells it."""
+    return bytes([size]) if size < 252 else bytes([252 + size % 4, (size - 252 - size % 4) // 4])
+
+
+def framed(packet):
+    """A packet of code 0 as self-delimited."""
+    return packet[:1] + spelled_length(len(packet) - 1) + packet[1:]
+
+
+def demo(k, packet):
+    """A record of a store."""
+    return struct.pack(">II", len(packet), k) + packet
+
+
+def store(path, count, payload, record=demo):
+    """Writes so many records, and answers the payload bytes."""
     body = 0
-    chunk = [struct.pack(">II", len(p), k) + p for k, p in enumerate(map(payload, range(min(count, 4100))))]
+    packets = [payload(k) for k in range(min(count, 4100))]
+    records = [record(k, packet) for k, packet in enumerate(packets)]
     with open(path, "wb") as file:
         for k in range(count):
-            record = chunk[k % len(chunk)]
-            file.write(record)
-            body += len(record) - 8
+            file.write(records[k % len(records)])
+            body += len(packets[k % len(packets)])
     return body
+
+
+def padded(path, size):
+    """Writes one packet of code 3 with so many bytes of padding."""
+    full, last = divmod(size - 1, 255)
+    with open(path, "wb") as file:
+        file.write(b"\xfb\x41" + b"\xff" * full + bytes([last]) + b"\xaa" + bytes(254 * full + last))
 
 
 def most_resident(child):
@@ -89,25 +124,59 @@ def instructions(words, path, folder):
 def costs(words, payload, folder):
     """Instructions a packet and a payload byte: what a longer store takes more than a short one."""
     few, many = pathlib.Path(folder, "few"), pathlib.Path(folder, "many")
-    body = store(many, 2_500, payload) - store(few, 500, payload)
+    record = (lambda k, packet: framed(packet)) if "self" in words else demo
+    body = store(many, 2_500, payload, record) - store(few, 500, payload, record)
     more = instructions(words, many, folder) - instructions(words, few, folder)
     return more / 2_000, more / body
+
+
+def writes(words, path):
+    """How many writes one run makes, by strace."""
+    with open(path, "rb") as source:
+        done = subprocess.run(
+            ["strace", "-f", "-e", "trace=write,read", "-c", PROGRAM, *words],
+            stdin=source, stdout=subprocess.DEVNULL, stderr=subprocess.PIPE, text=True)
+    calls = {line.split()[-1]: int(line.split()[3]) for line in done.stderr.splitlines() if re.search(r" (read|write)$", line)}
+    return calls.get("read", 0), calls.get("write", 0)
+
+
+def large_input(form, folder):
+    """64 MB in a form, or 16 MB for a packet that is the whole input; its path."""
+    path = pathlib.Path(folder, form)
+    if form == "demo":
+        store(path, 320_000, single)
+    elif form == "self":
+        store(path, 320_000, single, lambda k, packet: framed(packet))
+    else:
+        padded(path, 2**24 - 1)
+    return path
 
 
 def main():
     subprocess.run([TOP / "opuspack", "norm", "--form", "demo"], stdin=subprocess.DEVNULL, check=True)
     with tempfile.TemporaryDirectory() as folder:
-        large = pathlib.Path(folder, "large")
-        store(large, 320_000, single)
+        for form in ["demo", "self", "raw"]:
+            large = large_input(form, folder)
+            for job in ["norm", "check"]:
+                words = [job, "--form", form]
+                seconds, resident = run(words, large)
+                rate = large.stat().st_size / seconds / 1e6
+                line = f"{' '.join(words)}: {rate:.0f} MB/s of processor time, {resident / 1024:.1f} MB resident (goal 4)"
+                if shutil.which("strace"):
+                    reads, wrote = writes(words, large)
+                    line += f", {reads} reads, {wrote} writes"
+                print(line)
+            large.unlink()
+        if not shutil.which("valgrind"):
+            return
         for words in JOBS:
-            seconds, resident = run(words, large)
-            rate = large.stat().st_size / seconds / 1e6
-            print(f"{' '.join(words)}: {rate:.0f} MB/s of processor time, {resident / 1024:.1f} MB resident")
-            if not shutil.which("valgrind"):
-                continue
             for name, payload in STORES.items():
+                if "self" in words and payload is spelled:
+                    continue
                 packet, byte = costs(words, payload, folder)
-                print(f"  {name}: {packet:.0f} instructions a packet, {byte:.2f} a payload byte")
+                goal = GOALS.get((words[0], name))
+                said = f" (goal {goal})" if goal and len(words) == 3 else ""
+                print(f"{' '.join(words)}, {name}: {packet:.0f} instructions a packet{said}, {byte:.2f} a payload byte")
 
 
 main()

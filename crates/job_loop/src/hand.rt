@@ -10,6 +10,7 @@ use crate::{Ending, Gather, InputEnd, JobStop, Lent, Numbers, RecordJob};
 use opus_io::SinkStop;
 
 /// Hands a record to the job. Where the job refuses it, what was written is handed on.
+#[inline(always)]
 pub(crate) fn hand<N: Numbers, C, J: RecordJob<N, C>, O: Gather>(
     job: &mut J,
     item: &Lent<'_, N>,
@@ -37,6 +38,8 @@ pub(crate) fn hand<N: Numbers, C, J: RecordJob<N, C>, O: Gather>(
 }
 
 /// Tells the job how the input ends, hands on all that was written, and ends the run.
+#[cold]
+#[inline(never)]
 pub(crate) fn close<N: Numbers, C: Copy, J: RecordJob<N, C>, O: Gather>(
     job: &mut J,
     end: InputEnd<C>,
@@ -61,6 +64,8 @@ pub(crate) fn close<N: Numbers, C: Copy, J: RecordJob<N, C>, O: Gather>(
 }
 
 // Hands on what stands before a refusal. Where that fails, this is how the run ends.
+#[cold]
+#[inline(never)]
 fn refuse<R: Copy, O: Gather>(refusal: R, out: &mut O) -> Ending<R>
     ensures refusing { Refusing refusal result (O.held out.new) }
     ensures keeps { Keeps (O.contents out.old) (O.contents out.new) }

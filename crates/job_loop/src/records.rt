@@ -50,6 +50,7 @@ impl<F: Form> Records<F> {
     }
 
     /// Goes on in the bytes that were taken, as far as the next one that decides something.
+    #[inline(always)]
     pub(crate) fn next(&mut self) -> Turn<F::Cut>
         ensures moves { Moves result self.old.reader self.new.reader self.old.over }
         ensures turn { (h : List ℕ) (rs : List (Shown F.Record)) → F.stands self.old.form h rs
@@ -70,6 +71,8 @@ impl<F: Form> Records<F> {
     }
 
     // Where nothing is shown.
+    #[cold]
+    #[inline(never)]
     fn idle(&mut self) -> Turn<F::Cut>
         requires nothing { take (self.old.reader.limit - self.old.reader.passed) self.old.reader.bytes ≡ [] }
         requires in_limit { self.old.reader.passed ≤ self.old.reader.limit }
@@ -98,6 +101,7 @@ impl<F: Form> Records<F> {
     }
 
     /// The record that stands, until the next read.
+    #[inline(always)]
     pub(crate) fn record(&self) -> Lent<'_, F::Record>
         requires { F.ready self.now.form self.now.reader.last }
         ensures is { result ≡ F.current self.now.form self.now.reader.last }

@@ -1,7 +1,7 @@
 -- Each job that words stand for has the options of the table.
 use Rattle.std.proofs.Common.{◌≡◌, ◌&&◌, ◌||◌, ◌⊎◌, ◌∙◌, ◌∷◌, Bool, Err, IfSome, IsSomeAnd, List}
-use Rattle.std.proofs.Common.{None, Ok, Option, Result, Some, [], ap, false, find, if◌then◌else◌, inl, inr}
-use Rattle.std.proofs.Common.{is_some, nat_le, not, option_map, refl, slice_get, subst, sym, true, ℕ}
+use Rattle.std.proofs.Common.{IsSome, None, Ok, Option, Result, Some, [], ap, false, find, if◌then◌else◌, inl, inr}
+use Rattle.std.proofs.Common.{is_some, nat_le, not, rules, option_map, refl, slice_get, subst, sym, true, ℕ}
 use Rattle.std.proofs.lemmas.Bool.{leb-true}
 use Rattle.std.specs.List.{list_all, list_any}
 use Rattle.std.specs.Option.{option_map_or}
@@ -10,15 +10,16 @@ use Rattle.clap.specs.Words.{Row, matches_of}
 use Rattle.clap.specs.Faults.{fault_of}
 use Rattle.clap.specs.Kinds.{Kinds}
 use Rattle.opus_words.specs.CommandLine.{command_app, line_of}
-use Rattle.opus_words.specs.Fit.{IsBetween, IsFit, IsFormFor, IsNumberFor, number_at}
+use Rattle.opus_words.specs.Fit.{IsBetween, IsFit, IsFormFor, IsNumberFor, IsPaddingFor, number_at}
 use Rattle.opus_words.specs.Jobs.{form_name, form_within, forms_of, has_own_stream, is_built, is_form}
 use Rattle.opus_words.specs.Jobs.{is_self_of_many}
 use Rattle.opus_words.specs.Number.{is_number, number_within, value_of}
 use Rattle.opus_words.specs.Options.{lack_of, options, row_of}
+use Rattle.opus_words.specs.Paddings.{padding_named}
 use Rattle.opus_words.specs.Words.{first_fault, form_from, is_foreign, is_missing, is_need, is_unfit}
 use Rattle.opus_words.specs.Words.{is_value_of, job_of_rows, job_with, judged, judged_if_named}
 use Rattle.opus_words.specs.Words.{job_of_line, job_of_words, job_unless}
-use Rattle.opus_words.specs.Words.{kind_of, number_from, number_of, text_of}
+use Rattle.opus_words.specs.Words.{kind_of, number_from, number_of, padding_from, text_of}
 use Rattle.opus_words.specs.declared.fault.UsageKind.{UsageKind}
 use Rattle.opus_words.specs.declared.form.Form.{Form}
 use Rattle.opus_words.specs.declared.form.Form.TheVariants.{Raw, Demo, SelfDelimited}
@@ -27,9 +28,9 @@ use Rattle.opus_words.specs.declared.kind.JobKind.{JobKind}
 use Rattle.opus_words.specs.declared.option.Opt.{Opt}
 use Rattle.opus_words.specs.declared.option.Opt.TheVariants as opt
 use Rattle.opus_words.specs.declared.table.Lack.{Lack}
-use Rattle.opus_words.specs.declared.table.Lack.TheVariants.{Needed, Open, FirstForm, Number}
+use Rattle.opus_words.specs.declared.table.Lack.TheVariants.{Needed, Open, FirstWord, Number}
 use Rattle.opus_words.specs.declared.table.Values.{Values}
-use Rattle.opus_words.specs.declared.table.Values.TheVariants.{Forms, Numbers}
+use Rattle.opus_words.specs.declared.table.Values.TheVariants.{Forms, Numbers, Paddings}
 
 -- ---- what `find` leaves
 
@@ -75,6 +76,7 @@ none_left p h o = find_none p options o h (listed o)
 abbrev fits : Values → Lack → Bool
 fits (Numbers least most) (Number n) = nat_le least n && nat_le n most
 fits Forms (Number n) = false
+fits Paddings (Number n) = false
 fits values _ = true
 
 row_fits : (o : Opt) → list_all (λ p. fits (row_of o).values p.1) (row_of o).jobs ≡ true
@@ -133,17 +135,23 @@ number_for : (kind : JobKind) (values : Values) (lack : Option Lack) (text : Opt
 number_for kind Forms None text f u m = refl
 number_for kind Forms (Some Needed) None f u m = refl
 number_for kind Forms (Some Open) None f u m = refl
-number_for kind Forms (Some FirstForm) None f u m = refl
+number_for kind Forms (Some FirstWord) None f u m = refl
 number_for kind Forms (Some (Number n)) None f u m = absurd (cc)
 number_for kind Forms (Some l) (Some t) f u m = refl
+number_for kind Paddings None text f u m = refl
+number_for kind Paddings (Some Needed) None f u m = refl
+number_for kind Paddings (Some Open) None f u m = refl
+number_for kind Paddings (Some FirstWord) None f u m = refl
+number_for kind Paddings (Some (Number n)) None f u m = absurd (cc)
+number_for kind Paddings (Some l) (Some t) f u m = refl
 number_for kind (Numbers least most) None text f u m = refl
 number_for kind (Numbers least most) (Some Needed) None f u m = absurd (cc)
 number_for kind (Numbers least most) (Some Open) None f u m = tt
-number_for kind (Numbers least most) (Some FirstForm) None f u m = tt
+number_for kind (Numbers least most) (Some FirstWord) None f u m = tt
 number_for kind (Numbers least most) (Some (Number n)) None f u m = default_between least most n f
 number_for kind (Numbers least most) (Some Needed) (Some t) f u m = needed least most t u
 number_for kind (Numbers least most) (Some Open) (Some t) f u m = number_between least most t
-number_for kind (Numbers least most) (Some FirstForm) (Some t) f u m = number_between least most t
+number_for kind (Numbers least most) (Some FirstWord) (Some t) f u m = number_between least most t
 number_for kind (Numbers least most) (Some (Number n)) (Some t) f u m = needed least most t u
 
 -- ---- the form
@@ -189,6 +197,19 @@ form_for : (kind : JobKind) (text : Option (List ℕ))
 form_for kind None u = form_first (forms_of kind)
 form_for kind (Some t) u = form_found (λ form. bytes_eq (form_name form) t) (forms_of kind) u
 
+-- ---- the padding
+
+some_is : {X : Type 0} (o : Option X) → not (is_some o) ≡ false → IsSome o
+some_is None e = absurd (cc)
+some_is (Some x) e = search rules
+
+padding_for : (kind : JobKind) (lack : Option Lack) (text : Option (List ℕ))
+    → option_map_or (λ t. not (is_some (padding_named t))) text false ≡ false
+    → IsPaddingFor lack (padding_from lack text)
+padding_for kind None text u = refl
+padding_for kind (Some lack) None u = search rules
+padding_for kind (Some lack) (Some t) u = some_is (padding_named t) u
+
 -- ---- the whole job
 
 module _ (kind : JobKind) (rows : List Row) (unfit : (o : Opt) → is_unfit kind rows o ≡ false)
@@ -199,6 +220,7 @@ module _ (kind : JobKind) (rows : List Row) (unfit : (o : Opt) → is_unfit kind
 
   same_number : (o : Opt) → number_of kind rows o ≡ number_at (job_with kind rows) o
   same_number opt.Form = number_fits opt.Form
+  same_number opt.Padding = number_fits opt.Padding
   same_number _ = refl
 
   numbers : (o : Opt)
@@ -231,6 +253,7 @@ judged_fits kind rows job h =
     let this : IsFit j = record {
       numbers = numbers kind rows unfit missing;
       form = form_for kind (text_of rows opt.Form) (unfit opt.Form);
+      padding = padding_for kind (lack_of opt.Padding kind) (text_of rows opt.Padding) (unfit opt.Padding);
       own_stream = w.1;
       not_self_of_many = w.2;
       built = w.3;

@@ -1,5 +1,6 @@
 pub mod Number
 pub mod Jobs
+pub mod Paddings
 pub mod Options
 pub mod CommandLine
 pub mod Words

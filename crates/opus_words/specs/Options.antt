@@ -8,13 +8,13 @@ use Rattle.opus_words.specs.declared.kind.JobKind.TheVariants.{Norm, Check, Show
 use Rattle.opus_words.specs.declared.kind.JobKind.TheVariants.{Apart, Join, Extract, Send, Recv}
 use Rattle.opus_words.specs.declared.kind.JobKind.TheVariants.{Replay, Make, Trial}
 use Rattle.opus_words.specs.declared.table.Lack.{Lack}
-use Rattle.opus_words.specs.declared.table.Lack.TheVariants.{Needed, Open, FirstForm, Number}
+use Rattle.opus_words.specs.declared.table.Lack.TheVariants.{Needed, Open, FirstWord, Number}
 use Rattle.opus_words.specs.declared.option.Opt.{Opt}
 use Rattle.opus_words.specs.declared.option.Opt.TheVariants.{Form, Streams, Stream, Group, Frames}
 use Rattle.opus_words.specs.declared.option.Opt.TheVariants.{Size, Pt, Seq, Stamp, Ssrc}
-use Rattle.opus_words.specs.declared.option.Opt.TheVariants.{Seed, Count}
+use Rattle.opus_words.specs.declared.option.Opt.TheVariants.{Seed, Count, Padding}
 use Rattle.opus_words.specs.declared.table.Values.{Values}
-use Rattle.opus_words.specs.declared.table.Values.TheVariants.{Forms, Numbers}
+use Rattle.opus_words.specs.declared.table.Values.TheVariants.{Forms, Numbers, Paddings}
 
 -- a row: the option's name, its values, and the jobs that take it, each with what stands where the
 -- option isn't given
@@ -28,8 +28,8 @@ row name values jobs = record { name = name; values = values; jobs = jobs }
 
 abbrev pub row_of : Opt → OptionRow
 row_of Form = row (codes "form") Forms
-    ((Norm, FirstForm) ∷ (Check, FirstForm) ∷ (Show, FirstForm) ∷ (Merge, FirstForm)
-    ∷ (Split, FirstForm) ∷ (Pad, FirstForm) ∷ [])
+    ((Norm, FirstWord) ∷ (Check, FirstWord) ∷ (Show, FirstWord) ∷ (Merge, FirstWord)
+    ∷ (Split, FirstWord) ∷ (Pad, FirstWord) ∷ [])
 row_of Streams = row (codes "streams") (Numbers 1 255)
     ((Norm, Number 1) ∷ (Check, Number 1) ∷ (Show, Number 1) ∷ (Apart, Needed) ∷ (Join, Needed)
     ∷ (Extract, Needed) ∷ [])
@@ -45,11 +45,12 @@ row_of Ssrc = row (codes "ssrc") (Numbers 0 4294967295)
     ((Send, Number 0) ∷ (Recv, Open) ∷ (Replay, Open) ∷ [])
 row_of Seed = row (codes "seed") (Numbers 0 4294967295) ((Make, Number 0) ∷ (Trial, Number 0) ∷ [])
 row_of Count = row (codes "count") (Numbers 0 1000000) ((Make, Needed) ∷ (Trial, Needed) ∷ [])
+row_of Padding = row (codes "padding") Paddings ((Norm, FirstWord) ∷ [])
 
 -- the options in the order of the table
 abbrev pub options : List Opt
 options = Form ∷ Streams ∷ Stream ∷ Group ∷ Frames ∷ Size ∷ Pt ∷ Seq ∷ Stamp ∷ Ssrc ∷ Seed ∷ Count
-    ∷ []
+    ∷ Padding ∷ []
 
 abbrev pub option_name : Opt → List ℕ
 option_name opt = (row_of opt).name
@@ -62,6 +63,7 @@ lack_of opt kind = option_map (λ p. p.1) (find (λ p. is_kind p.0 kind) (row_of
 abbrev pub most_in : Values → ℕ
 most_in Forms = 0
 most_in (Numbers least most) = most
+most_in Paddings = 0
 
 abbrev pub most_of : Opt → ℕ
 most_of opt = most_in (row_of opt).values

@@ -12,6 +12,8 @@ use Rattle.opus_words.specs.Jobs.{form_within, forms_of, has_own_stream, is_buil
 use Rattle.opus_words.specs.Jobs.{kind_named}
 use Rattle.opus_words.specs.Number.{number_within}
 use Rattle.opus_words.specs.Options.{lack_of, option_name, options, row_of}
+use Rattle.opus_words.specs.Paddings.{first_padding, padding_named}
+use Rattle.opus_feed.specs.declared.padding.Padding.{Padding}
 use Rattle.opus_words.specs.declared.fault.UsageKind.{UsageKind}
 use Rattle.opus_words.specs.declared.fault.UsageKind.TheVariants as usage
 use Rattle.opus_words.specs.declared.fault.WordsFault.{WordsFault}
@@ -24,7 +26,7 @@ use Rattle.opus_words.specs.declared.table.Lack.TheVariants.{Needed, Number}
 use Rattle.opus_words.specs.declared.option.Opt.{Opt}
 use Rattle.opus_words.specs.declared.option.Opt.TheVariants as opt
 use Rattle.opus_words.specs.declared.table.Values.{Values}
-use Rattle.opus_words.specs.declared.table.Values.TheVariants.{Forms, Numbers}
+use Rattle.opus_words.specs.declared.table.Values.TheVariants.{Forms, Numbers, Paddings}
 
 -- ---- the texts that the words give
 
@@ -45,6 +47,7 @@ is_foreign kind rows o = is_some (text_of rows o) && not (is_some (lack_of o kin
 abbrev pub is_value_of : Values → JobKind → List ℕ → Bool
 is_value_of Forms kind text = is_some (form_within kind text)
 is_value_of (Numbers least most) kind text = is_some (number_within least most text)
+is_value_of Paddings kind text = is_some (padding_named text)
 
 -- the option is given, and its text is no value that the job allows
 abbrev pub is_unfit : JobKind → List Row → Opt → Bool
@@ -64,6 +67,7 @@ is_missing kind rows o = is_need (lack_of o kind) && not (is_some (text_of rows 
 abbrev pub number_in : Values → List ℕ → Option ℕ
 number_in Forms text = None
 number_in (Numbers least most) text = number_within least most text
+number_in Paddings text = None
 
 abbrev pub number_lacking : Lack → Option ℕ
 number_lacking (Number n) = Some n
@@ -87,6 +91,15 @@ form_from kind (Some text) = form_within kind text
 abbrev pub form_of : JobKind → List Row → Option Form
 form_of kind rows = form_from kind (text_of rows opt.Form)
 
+abbrev pub padding_from : Option Lack → Option (List ℕ) → Option Padding
+padding_from None text = None
+padding_from (Some lack) None = Some first_padding
+padding_from (Some lack) (Some text) = padding_named text
+
+-- the padding: the one given, or the first one; none where the job doesn't take the option
+abbrev pub padding_of : JobKind → List Row → Option Padding
+padding_of kind rows = padding_from (lack_of opt.Padding kind) (text_of rows opt.Padding)
+
 -- the job with its options
 abbrev pub job_with : JobKind → List Row → Job
 job_with kind rows = record {
@@ -103,6 +116,7 @@ job_with kind rows = record {
   ssrc = number_of kind rows opt.Ssrc;
   seed = number_of kind rows opt.Seed;
   count = number_of kind rows opt.Count;
+  padding = padding_of kind rows;
 }
 
 -- ---- the usage kinds in their order

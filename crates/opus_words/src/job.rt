@@ -5,6 +5,7 @@ ghost use Rattle.opus_words.specs.Jobs.{is_of_streams};
 
 use crate::form::Form;
 use crate::kind::JobKind;
+use opus_feed::Padding;
 
 /// What the words ask for. A field is `None` where the job doesn't take the option, and where the
 /// option isn't given and there is then no bound or any value will do.
@@ -34,6 +35,8 @@ pub struct Job {
     pub seed: Option<u32>,
     /// Records, 0 to 1,000,000.
     pub count: Option<u32>,
+    /// What becomes of the padding bytes of each packet (RFC 6716, 3.2.5).
+    pub padding: Option<Padding>,
 }
 
 impl Job {

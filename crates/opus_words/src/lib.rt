@@ -12,6 +12,7 @@ pub mod laws;
 mod matched;
 mod number;
 mod option;
+mod padding;
 mod table;
 mod words;
 
@@ -21,6 +22,7 @@ pub use form::Form;
 pub use job::Job;
 pub use kind::JobKind;
 pub use option::Opt;
+pub use padding::padding_name;
 pub use words::job_of;
 
 #[cfg(test)]

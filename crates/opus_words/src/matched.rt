@@ -5,7 +5,7 @@ ghost use Rattle.opus_words.specs.Jobs.{forms_of};
 ghost use Rattle.opus_words.specs.Options.{is_default, most_in, most_of, options, row_of};
 ghost use Rattle.opus_words.specs.Words.{form_of, is_foreign, is_missing, is_need, is_unfit};
 ghost use Rattle.opus_words.specs.Words.{is_value_of, job_with, kind_of, number_in, number_lacking};
-ghost use Rattle.opus_words.specs.Words.{number_of, text_of};
+ghost use Rattle.opus_words.specs.Words.{number_of, padding_of, text_of};
 
 use crate::command::JOB;
 use crate::form::Form;
@@ -13,8 +13,10 @@ use crate::job::Job;
 use crate::kind::JobKind;
 use crate::number::read_number;
 use crate::option::Opt;
+use crate::padding::{first_padding, padding_named};
 use crate::table::{Lack, Row, Values};
 use clap::ArgMatches;
+use opus_feed::Padding;
 
 /// The job that JOB names.
 pub(crate) fn kind(matches: &ArgMatches<'_>) -> Option<JobKind>
@@ -110,6 +112,17 @@ fn form(matches: &ArgMatches<'_>, kind: JobKind) -> Option<Form>
     }
 }
 
+/// The padding given, or the first one, if the job takes the option.
+fn padding(matches: &ArgMatches<'_>, kind: JobKind) -> Option<Padding>
+    ensures { result ≡ padding_of kind (rows_of (found_of matches.now)) }
+{
+    Opt::Padding.lack(kind)?;
+    match text(matches, Opt::Padding) {
+        Some(text) => padding_named(text),
+        None => Some(first_padding()),
+    }
+}
+
 /// The number given for the option, or its default.
 fn number(matches: &ArgMatches<'_>, kind: JobKind, opt: Opt) -> Option<u32>
     ensures value { result ≡ number_of kind (rows_of (found_of matches.now)) opt }
@@ -129,6 +142,7 @@ impl Values {
         match self {
             Values::Forms => kind.form_named(text).is_some(),
             Values::Numbers(least, most) => read_number(text, least, most).is_some(),
+            Values::Paddings => padding_named(text).is_some(),
         }
     }
 
@@ -139,6 +153,7 @@ impl Values {
         match self {
             Values::Forms => None,
             Values::Numbers(least, most) => read_number(text, least, most),
+            Values::Paddings => None,
         }
     }
 }
@@ -172,6 +187,7 @@ pub(crate) fn job(matches: &ArgMatches<'_>, kind: JobKind) -> Job
         ssrc: number(matches, kind, Opt::Ssrc),
         seed: number(matches, kind, Opt::Seed),
         count: number(matches, kind, Opt::Count),
+        padding: padding(matches, kind),
     }
 }
 

@@ -32,11 +32,13 @@ pub enum Opt {
     Seed,
     /// `--count`: how many records to generate.
     Count,
+    /// `--padding`: what becomes of the padding bytes of each packet.
+    Padding,
 }
 
 impl Opt {
     /// All options, in the order of the table.
-    pub const ALL: [Opt; 12] = [
+    pub const ALL: [Opt; 13] = [
         Opt::Form,
         Opt::Streams,
         Opt::Stream,
@@ -49,6 +51,7 @@ impl Opt {
         Opt::Ssrc,
         Opt::Seed,
         Opt::Count,
+        Opt::Padding,
     ];
 
     /// The option's name, without the two dashes before it.

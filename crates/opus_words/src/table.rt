@@ -7,8 +7,8 @@ use crate::kind::JobKind::{
     Trial,
 };
 use crate::option::Opt;
-use Lack::{FirstForm, Needed, Number, Open};
-use Values::{Forms, Numbers};
+use Lack::{FirstWord, Needed, Number, Open};
+use Values::{Forms, Numbers, Paddings};
 
 /// The values that an option takes.
 #[derive(Clone, Copy, Debug, PartialEq, Eq)]
@@ -17,6 +17,8 @@ pub(crate) enum Values {
     Forms,
     /// A number from the first to the second, in decimal digits.
     Numbers(u32, u32),
+    /// `drop` or `keep`.
+    Paddings,
 }
 
 /// What stands where an option of the job isn't given.
@@ -26,8 +28,8 @@ pub(crate) enum Lack {
     Needed,
     /// There is no bound, or any value will do.
     Open,
-    /// The job's first form.
-    FirstForm,
+    /// The first of the option's words.
+    FirstWord,
     /// This number.
     Number(u32),
 }
@@ -53,12 +55,12 @@ impl Row {
                 "form",
                 Forms,
                 &[
-                    (Norm, FirstForm),
-                    (Check, FirstForm),
-                    (Show, FirstForm),
-                    (Merge, FirstForm),
-                    (Split, FirstForm),
-                    (Pad, FirstForm),
+                    (Norm, FirstWord),
+                    (Check, FirstWord),
+                    (Show, FirstWord),
+                    (Merge, FirstWord),
+                    (Split, FirstWord),
+                    (Pad, FirstWord),
                 ],
             ),
             Opt::Streams => Row::new(
@@ -99,6 +101,7 @@ impl Row {
                 Numbers(0, 1_000_000),
                 &[(Make, Needed), (Trial, Needed)],
             ),
+            Opt::Padding => Row::new("padding", Paddings, &[(Norm, FirstWord)]),
         }
     }
 

@@ -1,6 +1,7 @@
 //! Words and what they stand for. Only norm and check of one stream are done so far.
 use crate::table::Lack;
 use crate::{Form, Job, JobKind, Opt, WordsFault, job_of};
+use opus_feed::Padding;
 use std::alloc::{AllocError, Global};
 use std::test::Fail;
 
@@ -27,6 +28,7 @@ const NORM: Job = Job {
     ssrc: None,
     seed: None,
     count: None,
+    padding: Some(Padding::Drop),
 };
 
 #[test]
@@ -35,6 +37,7 @@ fn takes_norm_with_its_options_in_any_order(rt: HostRuntime) -> Result<(), Fail>
         "norm",
         "norm --form raw",
         "norm --form=raw",
+        "norm --padding drop",
         "--form raw norm",
         "--form=raw norm --streams 1",
         "--streams 1 --form raw norm",
@@ -48,8 +51,12 @@ fn takes_norm_with_its_options_in_any_order(rt: HostRuntime) -> Result<(), Fail>
         answer(rt.alloc(), "norm --form self --streams 1")?,
         Ok(framed)
     );
+    let mut kept = NORM;
+    kept.padding = Some(Padding::Keep);
+    assert_eq!(rt; answer(rt.alloc(), "--padding=keep norm")?, Ok(kept));
     let mut checked = NORM;
     checked.kind = JobKind::Check;
+    checked.padding = None;
     checked.form = Some(Form::Demo);
     assert_eq!(rt; answer(rt.alloc(), "check --form=demo")?, Ok(checked));
     Ok(())
@@ -91,6 +98,9 @@ make --ssrc 1 = Option(Ssrc)
 send --seed 1 = Option(Seed)
 check --count=1 = Option(Count)
 norm --count 1 --stream 1 = Option(Stream)
+check --padding drop = Option(Padding)
+norm --padding keep --padding keep = Words
+split --count 1 --padding x = Option(Count)
 norm --form RAW = Value(Form)
 merge --form raw = Value(Form)
 pad --form self = Value(Form)
@@ -111,6 +121,9 @@ recv --ssrc 99999999999999999999 = Value(Ssrc)
 make --seed 1x = Value(Seed)
 trial --count 1000001 = Value(Count)
 trial --count 1_000 = Value(Count)
+norm --padding Keep = Value(Padding)
+norm --padding= = Value(Padding)
+norm --streams 0 --padding x = Value(Streams)
 extract --stream 7 = Missing(Streams)
 apart = Missing(Streams)
 join = Missing(Streams)
@@ -167,6 +180,8 @@ fn has_these_defaults(rt: HostRuntime) {
         (Opt::Ssrc, JobKind::Recv, Some(Lack::Open)),
         (Opt::Seed, JobKind::Trial, Some(Lack::Number(0))),
         (Opt::Form, JobKind::Send, None),
+        (Opt::Padding, JobKind::Norm, Some(Lack::FirstWord)),
+        (Opt::Padding, JobKind::Check, None),
     ];
     for (opt, kind, lack) in rows {
         assert_eq!(rt; opt.lack(kind), lack);

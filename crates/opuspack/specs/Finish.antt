@@ -8,7 +8,7 @@ use Rattle.opus_words.specs.declared.ending.Ending.TheVariants as ending
 use Rattle.opus_words.specs.declared.fault.UsageKind.{UsageKind}
 use Rattle.opus_words.specs.declared.fault.UsageKind.TheVariants as kind
 use Rattle.opus_words.specs.Options.{option_name}
-use Rattle.job_meaning.specs.NoteLine.{note, ending_note}
+use Rattle.opuspack.specs.NoteLine.{note, ending_note}
 use Rattle.opuspack.specs.declared.status.Status.{Status}
 use Rattle.opuspack.specs.declared.status.Status.TheVariants as status
 use Rattle.opuspack.specs.declared.finish.Finish.{Finish}

@@ -1,2 +1,3 @@
+pub mod NoteLine
 pub mod Finish
 pub mod Run

@@ -1,8 +1,7 @@
 //! The note, made in memory of its own.
 ghost use Rattle.std.specs.Prelude.{◌≡◌, ◌+◌, ◌≤◌, ◌++◌, length, codes};
 ghost use Rattle.opus_words.specs.Options.{option_name};
-ghost use Rattle.job_meaning.specs.Refusal.{refusal_value};
-ghost use Rattle.job_meaning.specs.NoteLine.{note, refusal_note};
+ghost use Rattle.opuspack.specs.NoteLine.{note, refusal_note};
 ghost use Rattle.opuspack.specs.Finish.{note_of, usage_text};
 
 use crate::finish::Finish;
@@ -65,7 +64,7 @@ fn option_line(front: &str, option: Opt) -> Line
 }
 
 fn refusal_line(fault: &JobFault) -> Line
-    ensures { result.bytes ≡ refusal_note (refusal_value fault.now) }
+    ensures { result.bytes ≡ refusal_note fault.now }
 {
     let mut line = ArrayString::new();
     line.push_str("opuspack: refused: record ");

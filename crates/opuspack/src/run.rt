@@ -35,7 +35,13 @@ pub fn run<S: Source, O: Sink, E: Sink>(
     requires most { limit ≤ 2 ^ 40 }
     ensures { (f : Finish) × (result ≡ status_of f)
         × Meant (job_of_words (map string_bytes words.now)) limit f
-        (λ s o. record { left = S.left s; reads = S.faults s; contents = O.contents o; writes = O.faults o })
+        (λ s o. record {
+          left = S.left s;
+          reads = S.faults s;
+          contents = O.contents o;
+          writes = O.faults o;
+          refusals = O.refusals o;
+        })
         source.old source.new out.old out.new
         × Noted (note_of f) (E.contents note.old) (E.contents note.new) (E.faults note.old)
         (E.faults note.new) (E.refusals note.old) (E.refusals note.new) }
@@ -55,7 +61,13 @@ fn do_job<S: Source, O: Sink>(
     requires some { 1 ≤ limit }
     requires most { limit ≤ 2 ^ 40 }
     ensures { Meant (job_of_words (map string_bytes words.now)) limit result
-        (λ s o. record { left = S.left s; reads = S.faults s; contents = O.contents o; writes = O.faults o })
+        (λ s o. record {
+          left = S.left s;
+          reads = S.faults s;
+          contents = O.contents o;
+          writes = O.faults o;
+          refusals = O.refusals o;
+        })
         source.old source.new out.old out.new }
 {
     match job_of(alloc, words) {

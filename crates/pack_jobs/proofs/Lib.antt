@@ -1,8 +1,12 @@
-pub mod TellingLemmas
-pub mod ReadingLemmas
-pub mod TakenLemmas
-pub mod Reached
-pub mod TurnLemmas
 pub mod DecimalLemmas
-pub mod NormSteps
-pub mod CheckSteps
+pub mod FormSizes
+pub mod RunLemmas
+pub mod NormLemmas
+pub mod CheckLemmas
+pub mod SameLemmas
+pub mod FormBytes
+pub mod AgainLemmas
+pub mod InputsAgain
+pub mod StoresAgain
+pub mod PackLemmas
+mod StandardFacts

@@ -1,25 +1,18 @@
 -- What the object of the job check stands for.
-use Rattle.std.specs.Prelude.{◌≡◌, Option, None, Some, option_map, Result, Ok, Err}
-use Rattle.job_meaning.specs.Refusal.{Refusal, refusal_value}
-use Rattle.job_meaning.specs.Job.{Job}
-use Rattle.job_meaning.specs.Check.{check}
-use Rattle.pack_jobs.specs.declared.job.JobStop.{JobStop}
-use Rattle.pack_jobs.specs.declared.job.JobStop.TheVariants.{Fault, NoMemory}
+use Rattle.std.specs.Prelude.{◌≡◌}
+use Rattle.job_loop.specs.Shown.{Shown}
+use Rattle.job_loop.specs.Meaning.{Meaning}
+use Rattle.pack_records.specs.declared.cut.Cut.{Cut}
+use Rattle.pack_records.specs.declared.item.Item.{Item}
 use Rattle.pack_jobs.specs.declared.check.Check.{Check}
+use Rattle.pack_jobs.specs.declared.refusal.Refusal.{Refusal}
+use Rattle.pack_jobs.specs.Refusal.{told}
+use Rattle.pack_jobs.specs.Check.{check, CheckKept}
 
 -- the job over records of the object's form
-abbrev pub check_job : Check → Job (Option Refusal)
+abbrev pub check_job : Check → Meaning (Shown Item) CheckKept Cut Refusal
 check_job c = check c.form
 
--- the first refusal
-abbrev pub refusal_in : Check → Option Refusal
-refusal_in c = option_map refusal_value c.first
-
-abbrev pub CheckStands : Check → Option Refusal → Type 0
-CheckStands c kept = kept ≡ refusal_in c
-
--- a stop with this refusal, where there is one
-abbrev pub StopsWith : Option Refusal → Result (Unit {0}) JobStop → Type 0
-StopsWith kept (Ok done) = kept ≡ None
-StopsWith kept (Err (Fault f)) = kept ≡ Some (refusal_value f)
-StopsWith kept (Err NoMemory) = ⊥
+pub record CheckStands (c : Check) (k : CheckKept) : Type 0 where
+  pub count : c.count ≡ told k.count
+  pub first : c.first ≡ k.first

@@ -1,6 +1,9 @@
-pub mod JobStep
-pub mod Halting
-pub mod Telling
-pub mod CheckStands
+pub mod Refusal
+pub mod Norm
 pub mod NormStands
+pub mod Check
+pub mod CheckStands
+pub mod Written
+pub mod SameRecords
 pub mod PackEnds
+pub mod Again

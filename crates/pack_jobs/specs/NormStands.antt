@@ -1,12 +1,17 @@
 -- What the object of the job norm stands for.
-use Rattle.job_meaning.specs.Job.{Job}
-use Rattle.job_meaning.specs.Norm.{norm}
+use Rattle.std.specs.Prelude.{◌≡◌, ℕ}
+use Rattle.job_loop.specs.Shown.{Shown}
+use Rattle.job_loop.specs.Meaning.{Meaning}
+use Rattle.pack_records.specs.declared.cut.Cut.{Cut}
+use Rattle.pack_records.specs.declared.item.Item.{Item}
 use Rattle.pack_jobs.specs.declared.norm.Norm.{Norm}
+use Rattle.pack_jobs.specs.declared.refusal.Refusal.{Refusal}
+use Rattle.pack_jobs.specs.Refusal.{told}
+use Rattle.pack_jobs.specs.Norm.{norm}
 
 -- the job over records of the object's form
-abbrev pub norm_job : Norm → Job (Unit {0})
-norm_job n = norm n.form
+abbrev pub norm_job : Norm → Meaning (Shown Item) ℕ Cut Refusal
+norm_job n = norm n.form n.padding
 
--- it keeps nothing
-abbrev pub NormStands : Norm → Unit {0} → Type 0
-NormStands n kept = Unit {0}
+abbrev pub NormStands : Norm → ℕ → Type 0
+NormStands n count = n.count ≡ told count

@@ -1,15 +1,33 @@
 -- Which jobs `pack_job` does, and what it answers for each.
-use Rattle.std.specs.Prelude.{◌≡◌, ℕ, List, Some, IsSome, unwrap_or}
-use Rattle.std.specs.declared.option.Option.{Option}
+use Rattle.std.specs.Prelude.{◌≡◌, ◌+◌, ℕ, List, [], Some, IfSome, IsSome, unwrap_or, Option}
+use Rattle.opus_io.specs.Cause.{RoseWhere}
+use Rattle.opus_io.specs.Outside.{Outside}
+use Rattle.job_loop.specs.Shown.{Shown}
+use Rattle.job_loop.specs.Meaning.{Meaning, outcome}
+use Rattle.job_loop.specs.Ran.{Ran}
+use Rattle.job_loop.specs.Reading.{Reads, Answers, TakesAtMost}
+use Rattle.job_loop.specs.Causes.{Causes, is_read_fault, is_write_fault, is_no_memory}
+use Rattle.job_loop.specs.declared.input_end.InputEnd.{InputEnd}
+use Rattle.job_loop.specs.declared.ending.Ending as loop
+use Rattle.job_loop.specs.declared.ending.Ending.TheVariants as endings
+use Rattle.opus_feed.specs.declared.padding.Padding.{Padding}
+use Rattle.opus_feed.specs.declared.padding.Padding.TheVariants.{Drop}
 use Rattle.opus_words.specs.declared.form.Form.{Form}
-use Rattle.opus_words.specs.declared.form.Form.TheVariants.{Raw}
+use Rattle.opus_words.specs.declared.form.Form.TheVariants.{Raw, Demo, SelfDelimited}
 use Rattle.opus_words.specs.declared.kind.JobKind.{JobKind}
 use Rattle.opus_words.specs.declared.kind.JobKind.TheVariants.{Norm, Check}
 use Rattle.opus_words.specs.declared.job.Job.{Job}
 use Rattle.opus_words.specs.declared.ending.Ending.{Ending}
-use Rattle.job_meaning.specs.Norm.{norm}
-use Rattle.job_meaning.specs.Check.{check}
-use Rattle.job_meaning.specs.Ends.{Ends}
+use Rattle.opus_words.specs.declared.ending.Ending.TheVariants.{Ok, Refused, ReadFault, WriteFault, NoMemory, InputLimit}
+use Rattle.pack_records.specs.declared.cut.Cut.{Cut}
+use Rattle.pack_records.specs.declared.item.Item.{Item}
+use Rattle.pack_records.specs.Raw.{RawSettles, RawEnds}
+use Rattle.pack_records.specs.Demo.{DemoSettles, DemoEnds}
+use Rattle.pack_records.specs.Framed.{SelfSettles, SelfEnds}
+use Rattle.pack_jobs.specs.declared.refusal.Refusal.{Refusal}
+use Rattle.pack_jobs.specs.Refusal.{Tells}
+use Rattle.pack_jobs.specs.Norm.{norm}
+use Rattle.pack_jobs.specs.Check.{check}
 
 -- the jobs over packets
 abbrev pub IsPackKind : JobKind → Type 0
@@ -23,18 +41,69 @@ pub record IsPackJob (job : Job) : Type 0 where
   pub form : IsSome job.form
   pub streams : job.streams ≡ Some 1
 
-abbrev pub KindEnds : JobKind → Form → ℕ → Ending → Option (List ℕ) → Option (List ℕ) → ℕ → ℕ
-    → Option (List ℕ) → Option (List ℕ) → ℕ → ℕ → Type 0
-KindEnds Norm form limit ending left left' reads reads' contents contents' writes writes' =
-    Ends (norm form) form limit ending left left' reads reads' contents contents' writes writes'
-KindEnds Check form limit ending left left' reads reads' contents contents' writes writes' =
-    Ends (check form) form limit ending left left' reads reads' contents contents' writes writes'
-KindEnds kind form limit ending left left' reads reads' contents contents' writes writes' = ⊥
+-- the form of the input, and what becomes of padding bytes: they are dropped where the job takes no such option
+abbrev pub form_in : Job → Form
+form_in job = unwrap_or job.form Raw
 
--- the job ended as its meaning says: what the source had and has left, its count of faults, what the sink held
--- and holds, and its count
-abbrev pub PackEnds : Job → ℕ → Ending → Option (List ℕ) → Option (List ℕ) → ℕ → ℕ → Option (List ℕ)
-    → Option (List ℕ) → ℕ → ℕ → Type 0
-PackEnds job limit ending left left' reads reads' contents contents' writes writes' =
-    KindEnds job.kind (unwrap_or job.form Raw) limit ending left left' reads reads' contents contents'
-    writes writes'
+abbrev pub padding_in : Job → Padding
+padding_in job = unwrap_or job.padding Drop
+
+-- the program's ending tells this one
+abbrev pub TellsEnding : Ending → loop.Ending Refusal → Type 0
+TellsEnding Ok endings.Ok = Unit {0}
+TellsEnding (Refused f) (endings.Refused r) = Tells f r
+TellsEnding ReadFault endings.ReadFault = Unit {0}
+TellsEnding WriteFault endings.WriteFault = Unit {0}
+TellsEnding NoMemory endings.NoMemory = Unit {0}
+TellsEnding InputLimit endings.InputLimit = Unit {0}
+TellsEnding result ending = ⊥
+
+-- where a record was decided
+abbrev pub place_of : Shown Item → ℕ
+place_of r = r.item.place
+
+-- A run of the job m over records as Settles and Ends have them ended so: this was the outside, and this it is.
+-- Untouched says that the source is as it was.
+pub record RunEnds {K : Type 0} (m : Meaning (Shown Item) K Cut Refusal)
+    (Settles : List ℕ → List (Shown Item) → Type 0) (Ends : List ℕ → List (Shown Item) → Option Cut → Type 0)
+    (limit : ℕ) (before after : Outside) (Untouched : Type 0) (ending : loop.Ending Refusal) : Type 0 where
+  pub ran : Ran m Settles Ends place_of limit before.left after.left before.contents after.contents [] ending
+  pub judged : IfSome before.left (λ x. (rs : List (Shown Item)) (end : InputEnd Cut) → Reads Settles Ends limit x rs end
+      → Answers ending end (outcome m rs end) before.contents after.contents)
+  pub taken : TakesAtMost (limit + 1) before.left after.left
+  pub read : RoseWhere (is_read_fault ending) before.reads after.reads
+  pub cause : Causes (is_write_fault ending) (is_no_memory ending) Untouched before.writes after.writes before.refusals
+      after.refusals
+
+-- the same, as the program's ending tells it
+abbrev pub MeaningEnds : {K : Type 0} → Meaning (Shown Item) K Cut Refusal → (List ℕ → List (Shown Item) → Type 0)
+    → (List ℕ → List (Shown Item) → Option Cut → Type 0) → ℕ → Outside → Outside → Type 0 → Ending → Type 0
+MeaningEnds m Settles Ends limit before after Untouched result =
+    (ending : loop.Ending Refusal) × TellsEnding result ending × RunEnds m Settles Ends limit before after Untouched ending
+
+-- what the job of a kind means over records of a form: one line a job
+abbrev pub KindEnds : JobKind → Form → Padding → (List ℕ → List (Shown Item) → Type 0)
+    → (List ℕ → List (Shown Item) → Option Cut → Type 0) → ℕ → Outside → Outside → Type 0 → Ending → Type 0
+KindEnds Norm form padding = MeaningEnds (norm form padding)
+KindEnds Check form padding = MeaningEnds (check form)
+KindEnds kind form padding = λ Settles Ends limit before after Untouched result. ⊥
+
+-- the job ended as its meaning has it, where Settles and Ends say which records its input has
+abbrev pub JobEnds : Job → (List ℕ → List (Shown Item) → Type 0)
+    → (List ℕ → List (Shown Item) → Option Cut → Type 0) → ℕ → Outside → Outside → Type 0 → Ending → Type 0
+JobEnds job = KindEnds job.kind (form_in job) (padding_in job)
+
+-- the records that bytes of a form settle, and those of a whole input: one line a form
+abbrev pub settles_in : Form → Padding → List ℕ → List (Shown Item) → Type 0
+settles_in Raw padding = RawSettles
+settles_in Demo padding = DemoSettles padding
+settles_in SelfDelimited padding = SelfSettles padding
+
+abbrev pub ends_in : Form → Padding → List ℕ → List (Shown Item) → Option Cut → Type 0
+ends_in Raw padding = RawEnds padding
+ends_in Demo padding = DemoEnds padding
+ends_in SelfDelimited padding = SelfEnds padding
+
+-- the job ended as its meaning has it over the records of its form
+abbrev pub PackEnds : Job → ℕ → Outside → Outside → Type 0 → Ending → Type 0
+PackEnds job = JobEnds job (settles_in (form_in job) (padding_in job)) (ends_in (form_in job) (padding_in job))

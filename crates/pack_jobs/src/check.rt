@@ -1,98 +1,150 @@
 //! The job check: a line for each record.
-ghost use Rattle.std.specs.Prelude.{◌≡◌, ◌≤◌, ◌++◌, Option, length, OnOk};
-ghost use Rattle.job_meaning.specs.Refusal.{Refusal, refusal_value};
-ghost use Rattle.job_meaning.specs.Check.{check, check_line, first_refusal};
-ghost use Rattle.job_records.specs.Record.{record_value, PlaceFits};
-ghost use Rattle.pack_jobs.specs.CheckStands.{check_job, refusal_in, CheckStands, StopsWith};
+ghost use Rattle.std.specs.Prelude.{◌≡◌, ◌≤◌, ◌+◌, Option, Some, length, codes, OnOk, OnErr, ◌++◌, ◌∷◌, []};
+ghost use Rattle.std.specs.Io.KnownBytes.{Appends};
+ghost use Rattle.opus_io.specs.Sink.{SinkCause, Onward};
+ghost use Rattle.job_loop.specs.Telling.{Front};
+ghost use Rattle.pack_jobs.specs.Check.{check, CheckKept, check_line, first_refusal};
+ghost use Rattle.pack_jobs.specs.Refusal.{fault_text, refusal_of};
+ghost use Rattle.pack_jobs.specs.declared.refusal.Why.TheVariants.{StoreCut};
 
-use crate::job::{JobStop, RecordJob};
-use crate::refusal::refusal_of;
-use crate::text::{decimal_text, fault_text};
-use arrayvec::ArrayString;
-use job_records::{Event, Record};
-use opus_io::NoMemory;
+use crate::line::Line;
+use crate::refusal::{Refusal, Why, refusal_at};
+use crate::text::fault_text;
+use job_loop::{InputEnd, JobStop, Lent, RecordJob};
+use opus_io::{Sink, SinkStop, write_all};
 use opus_packet::Fault;
-use opus_words::{Form, JobFault};
+use opus_words::Form;
+use pack_records::{Cut, Found, Item};
 
 /// Tells of each record whether its packet is well formed, and names the first fault at the end.
 #[derive(Drop)]
 pub struct Check {
     form: Form,
-    first: Option<JobFault>,
+    // How many records were taken.
+    count: u64,
+    first: Option<Refusal>,
 }
 
 impl Check {
+    ghost use Rattle.pack_jobs.specs.CheckStands.{check_job, CheckStands};
+
     /// The job over an input of this form, before its first record.
     pub fn new(form: Form) -> Check
         ensures job { check_job result ≡ check form }
         ensures stands { CheckStands result (check form).start }
     {
-        Check { form, first: None }
+        Check {
+            form,
+            count: 0,
+            first: None,
+        }
     }
 
-    // Keeps the first fault.
-    fn keep(&mut self, fault: JobFault)
+    // Keeps a refusal if it is the first, and answers the first.
+    #[cold]
+    fn keep(&mut self, refusal: Refusal) -> Refusal
+        ensures first { result ≡ first_refusal self.old.first refusal }
+        ensures kept { self.new.first ≡ Some result }
         ensures form { self.new.form ≡ self.old.form }
-        ensures first { refusal_in self.new
-            ≡ Some (first_refusal (refusal_in self.old) (refusal_value fault)) }
+        ensures count { self.new.count ≡ self.old.count }
     {
-        if self.first.is_none() {
-            self.first = Some(fault);
-        }
+        let first = self.first.unwrap_or(refusal);
+        self.first = Some(first);
+        first
     }
 
-    // Stops with the first fault, where there is one.
-    fn stop(&self) -> Result<(), JobStop>
-        ensures { StopsWith (refusal_in self.now) result }
+    // The first refusal, or the one for a cut of the store at this place.
+    fn cut_at(&self, place: u64) -> Refusal
+        ensures { result ≡ first_refusal self.now.first (refusal_of self.now.count place StoreCut) }
     {
-        match self.first {
-            Some(first) => Err(JobStop::Fault(first)),
-            None => Ok(()),
-        }
+        self.first.unwrap_or(Refusal {
+            index: self.count,
+            place,
+            why: Why::StoreCut,
+        })
     }
 }
 
-impl RecordJob for Check {
-    ghost Kept = { Option Refusal };
+impl RecordJob<Item, Cut> for Check {
+    ghost use Rattle.pack_jobs.specs.CheckStands.{check_job, CheckStands};
 
-    ghost job = { check_job };
+    type Refusal = Refusal;
+
+    ghost Kept = { CheckKept };
+
+    ghost meaning = { check_job };
 
     ghost stands = { CheckStands };
 
-    fn take(&mut self, item: &Record<'_>, out: &mut Vec<u8>) -> Result<(), JobStop> {
-        match &item.event {
-            Event::Packet(_) => Ok(write_line(item.index, "ok", out)?),
-            Event::Lost => Ok(write_line(item.index, "lost", out)?),
-            Event::Bad(fault) => {
-                write_line(item.index, fault_text(*fault).as_str(), out)?;
-                self.keep(refusal_of(item, *fault));
-                match self.form {
-                    Form::SelfDelimited => self.stop(),
-                    _ => Ok(()),
+    ghost lacks = { λ _. ⊥ };
+
+    fn opening(&self) -> &[u8] {
+        &[]
+    }
+
+    fn take<O: Sink>(
+        &mut self,
+        item: &Lent<'_, Item>,
+        out: &mut O,
+    ) -> Result<(), JobStop<Refusal>> {
+        match item.item().found {
+            Found::Packet { .. } => write_word(self.count, b"ok", out)?,
+            Found::Lost => write_word(self.count, b"lost", out)?,
+            Found::Bad(fault) => {
+                write_fault(self.count, fault, out)?;
+                let first = self.keep(refusal_at(self.count, item.item(), fault));
+                if self.form == Form::SelfDelimited {
+                    return Err(JobStop::Refused(first));
                 }
             }
         }
+        self.count = self.count.saturating_add(1);
+        Ok(())
     }
 
-    fn finish(&mut self, _out: &mut Vec<u8>) -> Result<(), JobStop> {
-        self.stop()
-    }
-
-    fn names(&self, fault: JobFault) -> JobFault {
-        self.first.unwrap_or(fault)
+    fn finish<O: Sink>(&mut self, end: &InputEnd<Cut>, _: &mut O) -> Result<(), JobStop<Refusal>> {
+        match end {
+            InputEnd::Closed => match self.first {
+                Some(first) => Err(JobStop::Refused(first)),
+                None => Ok(()),
+            },
+            InputEnd::Cut(cut) => Err(JobStop::Refused(self.cut_at(cut.place))),
+            InputEnd::Past => Ok(()),
+        }
     }
 }
 
-/// Appends the line of a record.
-fn write_line(index: u64, text: &str, out: &mut Vec<u8>) -> Result<(), NoMemory>
-    requires { length text.now ≤ 40 }
-    ensures { OnOk result (out.new.items ≡ out.old.items ++ check_line index text.now) }
+// Writes `K WORD`.
+#[inline(always)]
+fn write_word<O: Sink>(count: u64, word: &[u8], out: &mut O) -> Result<(), SinkStop>
+    requires { length word.now ≤ 32 }
+    ensures ok { OnOk result (Appends (O.contents out.old) (O.contents out.new)
+        (check_line count word.now)) }
+    ensures front { OnErr result (Front (check_line count word.now)
+        (O.contents out.old) (O.contents out.new)) }
+    ensures cause { SinkCause (O.faults out.old) (O.faults out.new)
+        (O.refusals out.old) (O.refusals out.new) result }
+    ensures onward { Onward (O.onto out.old) (O.onto out.new) (O.handed out.old) (O.handed out.new) }
 {
-    let mut line: ArrayString<64> = ArrayString::new();
-    line.push_str(decimal_text(index).as_str());
-    line.push_str(" ");
-    line.push_str(text);
-    line.push_str("\n");
-    out.extend_from_slice(line.as_str().as_bytes())?;
-    Ok(())
+    let mut line = Line::new();
+    line.piece(b"\n");
+    line.piece(word);
+    line.piece(b" ");
+    line.number(count);
+    write_all(out, line.as_slice())
+}
+
+// Writes `K RULE at P`.
+#[cold]
+#[inline(never)]
+fn write_fault<O: Sink>(count: u64, fault: Fault, out: &mut O) -> Result<(), SinkStop>
+    ensures ok { OnOk result (Appends (O.contents out.old) (O.contents out.new)
+        (check_line count (fault_text fault))) }
+    ensures front { OnErr result (Front (check_line count (fault_text fault))
+        (O.contents out.old) (O.contents out.new)) }
+    ensures cause { SinkCause (O.faults out.old) (O.faults out.new)
+        (O.refusals out.old) (O.refusals out.new) result }
+    ensures onward { Onward (O.onto out.old) (O.onto out.new) (O.handed out.old) (O.handed out.new) }
+{
+    write_word(count, fault_text(fault).as_str().as_bytes(), out)
 }

@@ -1,19 +1,20 @@
-//! The jobs over packets, and the one loop over records that they share.
+//! The jobs over packets: what each makes of a record, and how the program's run of one ends.
+//!
+//! A job knows no form's bytes and no reading; `job_loop` hands it each record as soon as its bytes decide it.
 #![tactic(auto)]
 
 mod check;
-mod close;
-mod hand;
-mod job;
+pub mod laws;
+mod line;
 mod norm;
 mod pack;
 mod refusal;
-mod run;
+#[cfg(test)]
+mod tests;
 mod text;
 
 pub use check::Check;
-pub use job::{JobStop, RecordJob};
 pub use norm::Norm;
 pub use pack::pack_job;
-pub use run::run_records;
+pub use refusal::{Refusal, Why};
 pub use text::{decimal_text, fault_text};

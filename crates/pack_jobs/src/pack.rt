@@ -1,15 +1,35 @@
-//! The jobs over packets, by their kinds.
-ghost use Rattle.std.specs.Prelude.{◌^◌, ◌≤◌};
-ghost use Rattle.pack_jobs.specs.PackEnds.{IsPackJob, PackEnds};
+//! The jobs over packets, by their kinds and forms.
+ghost use Rattle.std.specs.Prelude.{◌≡◌, ◌^◌, ◌≤◌, [], IfOk};
+ghost use Rattle.pack_jobs.specs.PackEnds.{IsPackKind, IsPackJob, PackEnds, JobEnds, MeaningEnds, TellsEnding, place_of, form_in, padding_in};
 
 use crate::check::Check;
 use crate::norm::Norm;
-use crate::run::run_records;
-use opus_io::{Sink, Source};
+use crate::refusal::Refusal;
+use crate::text::job_fault;
+use job_loop::{Ending as LoopEnding, Form as RecordForm, RecordJob, run_job};
+use opus_feed::Padding;
+use opus_io::{NoMemory, Sink, Source};
 use opus_words::{Ending, Form, Job, JobKind};
+use pack_records::{Cut, DemoForm, Item, RawForm, SelfForm};
 use std::alloc::Global;
 
+// The form of the input.
+fn form_in(job: &Job) -> Form
+    ensures { result ≡ form_in job.now }
+{
+    job.form.unwrap_or(Form::Raw)
+}
+
+// What becomes of padding bytes.
+fn padding_in(job: &Job) -> Padding
+    ensures { result ≡ padding_in job.now }
+{
+    job.padding.unwrap_or(Padding::Drop)
+}
+
 /// Does a job over packets: reads `source` up to `limit` bytes, from 1 to 2^40, and writes to `out`.
+///
+/// What the bytes read settle is written before the next read. All memory is taken before the first read.
 pub fn pack_job<S: Source, O: Sink>(
     alloc: Global,
     job: &Job,
@@ -20,14 +40,188 @@ pub fn pack_job<S: Source, O: Sink>(
     requires some { 1 ≤ limit }
     requires most { limit ≤ 2 ^ 40 }
     requires job { IsPackJob job.now }
-    ensures { PackEnds job.now limit result (S.left source.old) (S.left source.new)
-        (S.faults source.old) (S.faults source.new) (O.contents out.old) (O.contents out.new)
-        (O.faults out.old) (O.faults out.new) }
+    ensures { PackEnds job.now limit
+        (record {
+          left = S.left source.old;
+          reads = S.faults source.old;
+          contents = O.contents out.old;
+          writes = O.faults out.old;
+          refusals = O.refusals out.old;
+        })
+        (record {
+          left = S.left source.new;
+          reads = S.faults source.new;
+          contents = O.contents out.new;
+          writes = O.faults out.new;
+          refusals = O.refusals out.new;
+        })
+        (source.new ≡ source.old) result }
 {
-    let form = job.form.unwrap_or(Form::Raw);
+    let padding = padding_in(job);
+    match form_in(job) {
+        Form::Raw => run_form(alloc, job, limit, RawForm::new(alloc, padding), source, out),
+        Form::Demo => run_form(
+            alloc,
+            job,
+            limit,
+            DemoForm::new(alloc, padding),
+            source,
+            out,
+        ),
+        Form::SelfDelimited => {
+            run_form(
+                alloc,
+                job,
+                limit,
+                SelfForm::new(alloc, padding),
+                source,
+                out,
+            )
+        }
+    }
+}
+
+// Does a job over records of a form, if there was memory for it.
+fn run_form<F, S, O>(
+    alloc: Global,
+    job: &Job,
+    limit: u64,
+    records: Result<F, NoMemory>,
+    source: &mut S,
+    out: &mut O,
+) -> Ending
+where
+    F: RecordForm<Record = Item, Cut = Cut> + Drop,
+    S: Source,
+    O: Sink,
+    requires some { 1 ≤ limit }
+    requires most { limit ≤ 2 ^ 40 }
+    requires kind { IsPackKind job.now.kind }
+    requires stands { IfOk records (λ f. F.stands f [] []) }
+    requires place { F.place ≡ place_of }
+    ensures { (layout : F.Layout) → IfOk records (λ f. F.layout f ≡ layout) → F.settles layout [] []
+        → JobEnds job.now (F.settles layout) (F.ends layout) limit
+        (record {
+          left = S.left source.old;
+          reads = S.faults source.old;
+          contents = O.contents out.old;
+          writes = O.faults out.old;
+          refusals = O.refusals out.old;
+        })
+        (record {
+          left = S.left source.new;
+          reads = S.faults source.new;
+          contents = O.contents out.new;
+          writes = O.faults out.new;
+          refusals = O.refusals out.new;
+        })
+        (source.new ≡ source.old) result }
+{
+    match records {
+        Ok(records) => run_kind(alloc, job, limit, records, source, out),
+        Err(NoMemory) => Ending::NoMemory,
+    }
+}
+
+// Does a job over records of a form, which was fed nothing yet: one line a job.
+fn run_kind<F, S, O>(
+    alloc: Global,
+    job: &Job,
+    limit: u64,
+    records: F,
+    source: &mut S,
+    out: &mut O,
+) -> Ending
+where
+    F: RecordForm<Record = Item, Cut = Cut> + Drop,
+    S: Source,
+    O: Sink,
+    requires some { 1 ≤ limit }
+    requires most { limit ≤ 2 ^ 40 }
+    requires kind { IsPackKind job.now.kind }
+    requires stands { F.stands records [] [] }
+    requires place { F.place ≡ place_of }
+    ensures { JobEnds job.now (F.settles (F.layout records)) (F.ends (F.layout records)) limit
+        (record {
+          left = S.left source.old;
+          reads = S.faults source.old;
+          contents = O.contents out.old;
+          writes = O.faults out.old;
+          refusals = O.refusals out.old;
+        })
+        (record {
+          left = S.left source.new;
+          reads = S.faults source.new;
+          contents = O.contents out.new;
+          writes = O.faults out.new;
+          refusals = O.refusals out.new;
+        })
+        (source.new ≡ source.old) result }
+{
+    let form = form_in(job);
     match job.kind {
-        JobKind::Norm => run_records(alloc, &mut Norm::new(form), form, limit, source, out),
-        JobKind::Check => run_records(alloc, &mut Check::new(form), form, limit, source, out),
+        JobKind::Norm => {
+            let mut norm = Norm::new(form, padding_in(job));
+            run_ended(alloc, limit, records, &mut norm, source, out)
+        }
+        JobKind::Check => {
+            let mut check = Check::new(form);
+            run_ended(alloc, limit, records, &mut check, source, out)
+        }
         _ => unreachable!(),
+    }
+}
+
+// Runs a job that takes no memory of its own, and ends as the program does.
+fn run_ended<F, J, S, O>(
+    alloc: Global,
+    limit: u64,
+    records: F,
+    job: &mut J,
+    source: &mut S,
+    out: &mut O,
+) -> Ending
+where
+    F: RecordForm<Record = Item, Cut = Cut> + Drop,
+    J: RecordJob<Item, Cut, Refusal = Refusal>,
+    S: Source,
+    O: Sink,
+    requires some { 1 ≤ limit }
+    requires most { limit ≤ 2 ^ 40 }
+    requires stands { F.stands records [] [] }
+    requires place { F.place ≡ place_of }
+    requires start { J.stands job.old (J.meaning job.old).start }
+    requires spared { J.lacks job.old → ⊥ }
+    ensures { MeaningEnds (J.meaning job.old) (F.settles (F.layout records)) (F.ends (F.layout records)) limit
+        (record {
+          left = S.left source.old;
+          reads = S.faults source.old;
+          contents = O.contents out.old;
+          writes = O.faults out.old;
+          refusals = O.refusals out.old;
+        })
+        (record {
+          left = S.left source.new;
+          reads = S.faults source.new;
+          contents = O.contents out.new;
+          writes = O.faults out.new;
+          refusals = O.refusals out.new;
+        })
+        (source.new ≡ source.old) result }
+{
+    ending_of(run_job(alloc, limit, records, job, source, out))
+}
+
+// The program's ending, with the text of a refusal.
+fn ending_of(ending: LoopEnding<Refusal>) -> Ending
+    ensures { TellsEnding result ending }
+{
+    match ending {
+        LoopEnding::Ok => Ending::Ok,
+        LoopEnding::Refused(refusal) => Ending::Refused(job_fault(refusal)),
+        LoopEnding::ReadFault => Ending::ReadFault,
+        LoopEnding::WriteFault => Ending::WriteFault,
+        LoopEnding::InputLimit => Ending::InputLimit,
+        LoopEnding::NoMemory => Ending::NoMemory,
     }
 }

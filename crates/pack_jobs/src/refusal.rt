@@ -1,22 +1,39 @@
-//! The fault that a bad record makes of a run.
-ghost use Rattle.std.specs.Prelude.{◌≡◌, ◌+◌, ◌<◌, ◌^◌};
-ghost use Rattle.job_meaning.specs.Refusal.{refusal_value};
-ghost use Rattle.job_meaning.specs.Records.{refusal_at};
-ghost use Rattle.job_records.specs.Record.{record_value};
+//! Why a job refuses an input, in numbers.
+ghost use Rattle.std.specs.Prelude.{◌≡◌};
+ghost use Rattle.pack_jobs.specs.Refusal.{refusal_at};
 
-use crate::text::fault_text;
-use job_records::Record;
 use opus_packet::Fault;
-use opus_words::JobFault;
+use pack_records::Item;
 
-/// The refusal for a record with this fault.
-pub(crate) fn refusal_of(item: &Record<'_>, fault: Fault) -> JobFault
-    requires { item.now.start + fault.place < 2 ^ 64 }
-    ensures { refusal_value result ≡ refusal_at (record_value item.now) fault }
+/// Why an input is refused.
+#[derive(Clone, Copy, Debug, PartialEq, Eq)]
+pub enum Why {
+    /// A record holds no packet, for this fault.
+    Fault(Fault),
+    /// A packet has more padding bytes than are kept: 65,535.
+    PaddingLong,
+    /// The store ends within a record.
+    StoreCut,
+}
+
+/// A refused input. Its text is made at the end of the run alone.
+#[derive(Clone, Copy, Debug, PartialEq, Eq)]
+pub struct Refusal {
+    /// The record's number, from 0.
+    pub index: u64,
+    /// The place, in bytes from the input's beginning.
+    pub place: u64,
+    /// What is wrong there.
+    pub why: Why,
+}
+
+/// The refusal for a record of this number that holds no packet, for this fault.
+pub(crate) fn refusal_at(index: u64, item: &Item, fault: Fault) -> Refusal
+    ensures { result ≡ refusal_at index item.now fault }
 {
-    JobFault {
-        index: item.index,
-        place: item.start + fault.place,
-        text: fault_text(fault),
+    Refusal {
+        index,
+        place: item.start.saturating_add(fault.place),
+        why: Why::Fault(fault),
     }
 }

@@ -1,10 +1,12 @@
-//! Texts in fixed memory.
+//! Texts in fixed memory, made at the end of a run.
 ghost use Rattle.std.specs.Prelude.{◌≡◌, ◌+◌, ◌≤◌, ◌<◌, ◌^◌, ◌++◌, ◌∷◌, [], length, decimal};
 ghost use Rattle.arrayvec.specs.ArrayString.{array_string_len};
-ghost use Rattle.job_meaning.specs.Refusal.{rule_name, fault_text};
+ghost use Rattle.pack_jobs.specs.Refusal.{rule_name, fault_text, refusal_text, Tells};
 
+use crate::refusal::{Refusal, Why};
 use arrayvec::ArrayString;
 use opus_packet::{Fault, Rule};
+use opus_words::JobFault;
 
 /// The decimal digits of `n`.
 pub fn decimal_text(n: u64) -> ArrayString<20>
@@ -37,7 +39,7 @@ fn push_digit(digit: u8, text: &mut ArrayString<20>)
     text.push(char::from(b'0' + digit));
 }
 
-/// `RULE at P`, where P counts from the packet's first byte.
+/// `RULE at P`, where P counts from the first byte that could be a packet's.
 pub fn fault_text(fault: Fault) -> ArrayString<64>
     ensures text { result.bytes ≡ fault_text fault }
     ensures most { length result.bytes ≤ 32 }
@@ -65,4 +67,36 @@ fn rule_text(rule: Rule) -> &'static str
         Rule::PadLimit => "PadLimit",
         Rule::Cut => "Cut",
     }
+}
+
+/// The fault that the program names.
+#[cold]
+#[inline(never)]
+pub(crate) fn job_fault(refusal: Refusal) -> JobFault
+    ensures { Tells result refusal }
+{
+    JobFault {
+        index: refusal.index,
+        place: refusal.place,
+        text: refusal_text(refusal.why),
+    }
+}
+
+fn refusal_text(why: Why) -> ArrayString<64>
+    ensures { result.bytes ≡ refusal_text why }
+{
+    match why {
+        Why::Fault(fault) => fault_text(fault),
+        Why::PaddingLong => text_of("padding long"),
+        Why::StoreCut => text_of("store cut"),
+    }
+}
+
+fn text_of(words: &str) -> ArrayString<64>
+    requires { length words.now ≤ 64 }
+    ensures { result.bytes ≡ words.now }
+{
+    let mut text = ArrayString::new();
+    text.push_str(words);
+    text
 }

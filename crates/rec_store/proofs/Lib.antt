@@ -1,2 +1,4 @@
 pub mod DemoLemmas
+pub mod DumpLemmas
 pub mod HeadLemmas
+pub mod StandardFacts

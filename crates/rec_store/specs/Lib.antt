@@ -1,3 +1,4 @@
 pub mod DemoStore
 pub mod DemoReader
+pub mod Dump
 pub mod HeadBytes

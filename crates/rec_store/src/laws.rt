@@ -1,7 +1,8 @@
-//! Laws on `opus_demo` stores: each is the contract of a function that does nothing.
+//! Laws on stores: each is the contract of a function that does nothing.
 ghost use Rattle.std.specs.Prelude.{◌≡◌, ◌^◌, ◌<◌, ◌≤◌, ℕ, List, ◌++◌, length, take, drop};
 ghost use Rattle.std.specs.List.{AllByRecursion};
 ghost use Rattle.rec_store.specs.DemoStore.{demo_head, demo_record, IsDemoRecord, NoWholeRecord};
+ghost use Rattle.rec_store.specs.Dump.{DumpRecord, IsDumpRecord, dump_record_bytes, IsRtcp, IsCut, packet_of_record, record_of_packet};
 
 /// The same bytes begin with one record at most.
 pub fn bytes_begin_with_one_record()
@@ -33,4 +34,24 @@ pub fn a_cut_record_is_none()
     ensures head { (bytes : List ℕ) → length bytes < 8 → NoWholeRecord bytes }
     ensures payload { (len range : ℕ) (part : List ℕ) → len < 2 ^ 32 → range < 2 ^ 32
         → length part < len → NoWholeRecord (demo_head len range ++ part) }
+{}
+
+/// The same bytes begin with one record of a capture at most.
+pub fn bytes_begin_with_one_dump_record()
+    ensures same { (r s : DumpRecord) (xs ys : List ℕ) → IsDumpRecord r → IsDumpRecord s
+        → dump_record_bytes r ++ xs ≡ dump_record_bytes s ++ ys → r ≡ s }
+    ensures rest { (r s : DumpRecord) (xs ys : List ℕ) → IsDumpRecord r → IsDumpRecord s
+        → dump_record_bytes r ++ xs ≡ dump_record_bytes s ++ ys → xs ≡ ys }
+{}
+
+/// The record that is written for a packet has this packet, whole, and is no RTCP.
+pub fn a_written_dump_record_has_its_packet()
+    ensures fits { (offset : ℕ) (packet : List ℕ) → offset < 2 ^ 32 → length packet ≤ 65527
+        → IsDumpRecord (record_of_packet offset packet) }
+    ensures packet { (offset : ℕ) (packet : List ℕ)
+        → packet_of_record (record_of_packet offset packet) ≡ packet }
+    ensures rtp { (offset : ℕ) (packet : List ℕ) → 1 ≤ length packet
+        → IsRtcp (record_of_packet offset packet) → ⊥ }
+    ensures whole { (offset : ℕ) (packet : List ℕ)
+        → IsCut (record_of_packet offset packet) → ⊥ }
 {}

@@ -1,3 +1,4 @@
+//! The records of an `opus_demo` store, written.
 ghost use Rattle.std.specs.Prelude.{◌≡◌, ◌+◌, ◌^◌, ◌<◌, ◌≤◌, ◌++◌, length, vec_len, vec_capacity, OnOk, OnErr};
 ghost use Rattle.rec_store.specs.DemoStore.{demo_head, demo_record};
 

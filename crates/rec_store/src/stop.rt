@@ -1,3 +1,4 @@
+//! Why a store gives nothing more.
 /// What is wrong with the bytes of a store. Places are indices from the input's first byte.
 #[derive(Clone, Copy, Debug, PartialEq, Eq)]
 pub enum StoreFault {

@@ -1,4 +1,5 @@
-use crate::{DemoReader, StoreFault, StoreStop, demo_head, demo_record};
+//! Stores read in pieces of any size, cut, past a limit and after a failed read; records and captures written.
+use crate::{DemoReader, StoreFault, StoreStop, demo_head, demo_record, dump_head, dump_record};
 use opus_io::{MemorySource, Reader, Source};
 use std::alloc::AllocError;
 use std::test::Fail;
@@ -82,5 +83,41 @@ fn records_are_appended(rt: HostRuntime) -> Result<(), Fail> {
     assert_eq!(rt; demo_record(1, &[0xF8, 0xAA], &mut out), Ok(()));
     assert_eq!(rt; demo_record(7, &[], &mut out), Ok(()));
     assert_eq!(rt; out.as_slice(), TWO.as_slice());
+    Ok(())
+}
+
+// Two records of a capture, 40 milliseconds after each other.
+const DUMPED: [u8; 44] = [
+    0, 0x16, 0, 0x0E, 0, 0, 0, 0, 0x80, 0x6F, 0xFF, 0xFF, 0xFF, 0xFF, 0xFE, 0xD8, 0, 0, 0, 1, 0xF8,
+    0xAA, 0, 0x16, 0, 0x0E, 0, 0, 0, 0x28, 0x80, 0x6F, 0, 1, 0, 0, 0x06, 0x58, 0, 0, 0, 1, 0xF8,
+    0xBB,
+];
+
+#[test]
+fn a_capture_is_appended(rt: HostRuntime) -> Result<(), Fail> {
+    let alloc = rt.alloc();
+    let mut out = Vec::from_slice(alloc, &[5])?;
+    assert_eq!(rt; dump_head(&mut out), Ok(()));
+    assert_eq!(rt; dump_record(0, &DUMPED[8..22], &mut out), Ok(()));
+    assert_eq!(rt; dump_record(40, &DUMPED[30..], &mut out), Ok(()));
+    let mut expected = Vec::from_slice(alloc, b"\x05#!rtpplay1.0 0.0.0.0/0\n")?;
+    expected.extend_from_slice(&[0; 16])?;
+    expected.extend_from_slice(&DUMPED)?;
+    assert_eq!(rt; out, expected);
+    Ok(())
+}
+
+// The smallest and the largest packet, and the greatest offset.
+#[test]
+fn records_of_a_capture_have_both_lengths(rt: HostRuntime) -> Result<(), Fail> {
+    let alloc = rt.alloc();
+    let largest = vec![in alloc; 7; 65_527]?;
+    let mut out = Vec::new(alloc);
+    assert_eq!(rt; dump_record(0, &[7], &mut out), Ok(()));
+    assert_eq!(rt; dump_record(u32::MAX, &largest, &mut out), Ok(()));
+    let mut expected = Vec::from_slice(alloc, &[0, 9, 0, 1, 0, 0, 0, 0, 7])?;
+    expected.extend_from_slice(&[0xFF, 0xFF, 0xFF, 0xF7, 0xFF, 0xFF, 0xFF, 0xFF])?;
+    expected.extend_from_slice(&largest)?;
+    assert_eq!(rt; out, expected);
     Ok(())
 }

@@ -1,83 +1,35 @@
 //! Words that stand for no job.
-use super::{Row, all_met};
+use super::{status_of, unfailing};
 use crate::status::Status;
 use std::test::Fail;
 
-static WORDS: [Row; 10] = [
-    Row {
-        words: &["norm", "--loud", "yes"],
-        input: b"\x08",
-        status: Status::Usage,
-        output: b"",
-        note: "opuspack: usage: words\n",
-    },
-    Row {
-        words: &["sing"],
-        input: b"\x08",
-        status: Status::Usage,
-        output: b"",
-        note: "opuspack: usage: job\n",
-    },
-    Row {
-        words: &["norm", "--size", "4"],
-        input: b"\x08",
-        status: Status::Usage,
-        output: b"",
-        note: "opuspack: usage: option --size\n",
-    },
-    Row {
-        words: &["split", "--frames", "0"],
-        input: b"\x08",
-        status: Status::Usage,
-        output: b"",
-        note: "opuspack: usage: value --frames\n",
-    },
-    Row {
-        words: &["pad"],
-        input: b"\x08",
-        status: Status::Usage,
-        output: b"",
-        note: "opuspack: usage: missing --size\n",
-    },
-    Row {
-        words: &["extract", "--streams", "2", "--stream", "2"],
-        input: b"\x08",
-        status: Status::Usage,
-        output: b"",
-        note: "opuspack: usage: value --stream\n",
-    },
-    Row {
-        words: &["sdp"],
-        input: b"\x08",
-        status: Status::Usage,
-        output: b"",
-        note: "opuspack: usage: not built\n",
-    },
-    Row {
-        words: &["norm", "--streams", "2"],
-        input: b"\x08",
-        status: Status::Usage,
-        output: b"",
-        note: "opuspack: usage: not built\n",
-    },
-    Row {
-        words: &["norm", "--form", "self", "--streams", "2"],
-        input: b"\x08",
-        status: Status::Usage,
-        output: b"",
-        note: "opuspack: usage: value --streams\n",
-    },
-    Row {
-        words: &["--help"],
-        input: b"\x08",
-        status: Status::Usage,
-        output: b"",
-        note: "opuspack: usage: words\n",
-    },
+// The words, and what the note says of them.
+static WORDS: [(&[&str], &str); 12] = [
+    (&["norm", "--loud", "yes"], "usage: words"),
+    (&["sing"], "usage: job"),
+    (&["norm", "--size", "4"], "usage: option --size"),
+    (&["split", "--frames", "0"], "usage: value --frames"),
+    (&["pad"], "usage: missing --size"),
+    (
+        &["extract", "--streams", "2", "--stream", "2"],
+        "usage: value --stream",
+    ),
+    (&["sdp"], "usage: not built"),
+    (&["norm", "--streams", "2"], "usage: not built"),
+    (
+        &["norm", "--form", "self", "--streams", "2"],
+        "usage: value --streams",
+    ),
+    (&["--help"], "usage: words"),
+    (&["norm", "--padding", "some"], "usage: value --padding"),
+    (&["merge", "--padding", "keep"], "usage: option --padding"),
 ];
 
 #[test]
 fn tells_what_is_wrong_with_the_words(rt: HostRuntime) -> Result<(), Fail> {
-    assert!(rt; all_met(rt.alloc(), &WORDS)?);
+    for (words, note) in &WORDS {
+        let ended = status_of(rt.alloc(), words, b"", &unfailing(1), b"", note)?;
+        assert_eq!(rt; ended, Some(Status::Usage));
+    }
     Ok(())
 }

@@ -1,9 +1,0 @@
-pub mod Record
-pub mod State
-pub mod Current
-pub mod Turns
-pub mod Collect
-pub mod Mark
-pub mod Inside
-pub mod Front
-pub mod StoreRest

@@ -1,0 +1,138 @@
+-- A run of a job over packets: want of memory, and the places of records.
+use Rattle.std.proofs.Common.{◌≡◌, ◌⊎◌, ℕ, List, [], Bool, true, Option, None, Some, IfSome, inl, inr, refl, sym, subst, arith}
+use Rattle.std.proofs.KnownBytes.{Consumes-nil}
+use Rattle.opus_io.specs.Cause.{Rose}
+use Rattle.opus_io.specs.Outside.{Outside}
+use Rattle.job_loop.specs.Causes.{Causes}
+use Rattle.job_loop.specs.Meaning.{Meaning}
+use Rattle.job_loop.specs.Ran.{Ran}
+use Rattle.job_loop.specs.Shown.{Shown}
+use Rattle.job_loop.specs.declared.ending.Ending.{Ending}
+use Rattle.job_loop.specs.declared.ending.Ending.TheVariants as endings
+use Rattle.job_loop.proofs.InnerLemmas.{unstarted}
+use Rattle.opus_feed.specs.declared.framing.Framing.TheVariants.{Whole}
+use Rattle.opus_feed.specs.declared.padding.Padding.{Padding}
+use Rattle.opus_feed.specs.Packets.{fault_of}
+use Rattle.opus_words.specs.declared.ending.Ending as program
+use Rattle.opus_words.specs.declared.ending.Ending.TheVariants.{NoMemory}
+use Rattle.opus_words.specs.declared.form.Form.{Form}
+use Rattle.opus_words.specs.declared.form.Form.TheVariants.{Raw, Demo, SelfDelimited}
+use Rattle.opus_words.specs.declared.job.Job.{Job}
+use Rattle.opus_words.specs.declared.kind.JobKind.{JobKind}
+use Rattle.opus_words.specs.declared.kind.JobKind.TheVariants as kinds
+use Rattle.rec_store.proofs.DemoLemmas.{NoWholeRecord-short}
+use Rattle.pack_records.specs.declared.cut.Cut.{Cut}
+use Rattle.pack_records.specs.declared.item.Item.{Item}
+use Rattle.pack_records.specs.SettledLaws.{early_nil}
+use Rattle.pack_records.proofs.DemoFronts.{undecided_short}
+use Rattle.pack_records.proofs.ShowsLemmas.{none_first, nil_early}
+use Rattle.pack_jobs.specs.declared.refusal.Refusal.{Refusal}
+use Rattle.pack_jobs.specs.Norm.{norm}
+use Rattle.pack_jobs.specs.Check.{check}
+use Rattle.pack_jobs.specs.PackEnds.{place_of, MeaningEnds, KindEnds, JobEnds, PackEnds, IsPackKind, form_in, padding_in, settles_in, ends_in}
+
+wanted : (Lacks Untouched R : Type 0) → (Lacks → ⊥) → (Lacks ⊎ Untouched) ⊎ R → Untouched ⊎ R
+wanted Lacks Untouched R spared (inl (inl lacks)) = absurd (spared lacks)
+wanted Lacks Untouched R spared (inl (inr untouched)) = inl untouched
+wanted Lacks Untouched R spared (inr rose) = inr rose
+
+pub spared_causes : (write memory : Bool) (Lacks Untouched : Type 0) (f f' r r' : ℕ) → (Lacks → ⊥)
+    → Causes write memory (Lacks ⊎ Untouched) f f' r r' → Causes write memory Untouched f f' r r'
+spared_causes write memory Lacks Untouched f f' r r' spared c = record {
+  written = c.written;
+  later = c.later;
+  wanted = λ is. wanted Lacks Untouched (Rose r r') spared (c.wanted is);
+}
+
+-- the same run, where a record's place is said otherwise
+pub ran_at : {R K C F : Type 0} → (m : Meaning R K C F) (Settles : List ℕ → List R → Type 0)
+    (Ends : List ℕ → List R → Option C → Type 0) (p q : R → ℕ) (limit : ℕ) (left left' old new : Option (List ℕ))
+    (ending : Ending F) → p ≡ q → Ran m Settles Ends p limit left left' old new [] ending
+    → Ran m Settles Ends q limit left left' old new [] ending
+ran_at m Settles Ends p q limit left left' old new ending same ran =
+    subst (λ place. Ran m Settles Ends place limit left left' old new [] ending) same ran
+
+-- memory ran out before the first read
+
+abbrev pub seen_as : Option (List ℕ) → ℕ → Option (List ℕ) → ℕ → ℕ → Outside
+seen_as left reads contents writes refusals = record {
+  left = left;
+  reads = reads;
+  contents = contents;
+  writes = writes;
+  refusals = refusals;
+}
+
+known : (left : Option (List ℕ)) (P : List ℕ → Type 0) → ((x : List ℕ) → P x) → IfSome left P
+known None P all = tt
+known (Some x) P all = all x
+
+unstarted_ends : {K : Type 0} → (m : Meaning (Shown Item) K Cut Refusal)
+    (Settles : List ℕ → List (Shown Item) → Type 0) (Ends : List ℕ → List (Shown Item) → Option Cut → Type 0)
+    (limit : ℕ) (left : Option (List ℕ)) (reads : ℕ) (contents : Option (List ℕ)) (writes refusals : ℕ)
+    (Untouched : Type 0) → Untouched → Settles [] []
+    → MeaningEnds m Settles Ends limit (seen_as left reads contents writes refusals)
+    (seen_as left reads contents writes refusals) Untouched NoMemory
+unstarted_ends m Settles Ends limit left reads contents writes refusals Untouched same settled = (
+  endings.NoMemory,
+  tt,
+  record {
+    ran = unstarted m Settles Ends place_of limit left contents settled;
+    judged = known left _ (λ x rs end reads. tt);
+    taken = ([], omega arith, Consumes-nil left);
+    read = refl;
+    cause = record { written = refl; later = omega arith; wanted = λ is. inl same };
+  },
+)
+
+pub unstarted_kind : (kind : JobKind) → IsPackKind kind → (form : Form) (padding : Padding)
+    (Settles : List ℕ → List (Shown Item) → Type 0) (Ends : List ℕ → List (Shown Item) → Option Cut → Type 0)
+    (limit : ℕ) (left : Option (List ℕ)) (reads : ℕ) (contents : Option (List ℕ)) (writes refusals : ℕ)
+    (Untouched : Type 0) → Untouched → Settles [] []
+    → KindEnds kind form padding Settles Ends limit (seen_as left reads contents writes refusals)
+    (seen_as left reads contents writes refusals) Untouched NoMemory
+unstarted_kind kinds.Norm is form padding = unstarted_ends (norm form padding)
+unstarted_kind kinds.Check is form padding = unstarted_ends (check form)
+unstarted_kind kinds.Show is form padding = absurd is
+unstarted_kind kinds.Merge is form padding = absurd is
+unstarted_kind kinds.Split is form padding = absurd is
+unstarted_kind kinds.Pad is form padding = absurd is
+unstarted_kind kinds.Apart is form padding = absurd is
+unstarted_kind kinds.Join is form padding = absurd is
+unstarted_kind kinds.Extract is form padding = absurd is
+unstarted_kind kinds.Head is form padding = absurd is
+unstarted_kind kinds.Send is form padding = absurd is
+unstarted_kind kinds.Recv is form padding = absurd is
+unstarted_kind kinds.Replay is form padding = absurd is
+unstarted_kind kinds.Sdp is form padding = absurd is
+unstarted_kind kinds.Make is form padding = absurd is
+unstarted_kind kinds.Trial is form padding = absurd is
+
+-- no bytes settle no records
+
+pub none_settled : (form : Form) (padding : Padding) → settles_in form padding [] []
+none_settled Raw padding = record { are_bytes = tt; records_are = sym (early_nil Whole 0 [] (omega arith)) }
+none_settled Demo padding = (
+  [],
+  record {
+    are_bytes = tt;
+    whole = [];
+    are = tt;
+    parts = refl;
+    none = NoWholeRecord-short [] (omega arith);
+    shows = inr record { undecided = undecided_short [] (omega arith); shows = refl };
+  },
+)
+none_settled SelfDelimited padding = (
+  [],
+  record { are_bytes = tt; packets = []; parts = refl; none = none_first; shows = sym (nil_early 0) },
+)
+
+-- the records are those of the job's form
+pub by_form : (job : Job) (limit : ℕ) (before after : Outside) (Untouched : Type 0) (result : program.Ending) (form : Form)
+    (padding : Padding) → form ≡ form_in job → padding ≡ padding_in job
+    → JobEnds job (settles_in form padding) (ends_in form padding) limit before after Untouched result
+    → PackEnds job limit before after Untouched result
+by_form job limit before after Untouched result form padding form_is padding_is ends =
+    subst (λ p. JobEnds job (settles_in (form_in job) p) (ends_in (form_in job) p) limit before after Untouched result) padding_is
+    (subst (λ f. JobEnds job (settles_in f padding) (ends_in f padding) limit before after Untouched result) form_is ends)

@@ -1,0 +1,100 @@
+-- The jobs, computed on small records.
+use Rattle.std.proofs.Common.{◌≡◌, ℕ, List, [], ◌∷◌, ◌++◌, false, true, codes, decimal, ap, ◌∙◌, refl, arith}
+use Rattle.std.proofs.lemmas.Fmt.{decimal_digit}
+use Rattle.job_loop.specs.Shown.{Shown}
+use Rattle.job_loop.specs.Meaning.{going, broke, outcome}
+use Rattle.job_loop.specs.declared.input_end.InputEnd.TheVariants.{Closed, Cut, Past}
+use Rattle.opus_packet.specs.declared.fault.Rule.TheVariants.{R5}
+use Rattle.opus_packet.specs.HeaderRead.{shape_of}
+use Rattle.opus_packet.specs.PacketFault.{fault}
+use Rattle.opus_feed.specs.declared.framing.Framing.TheVariants.{Whole}
+use Rattle.opus_feed.specs.declared.padding.Padding.TheVariants.{Drop, Keep}
+use Rattle.opus_words.specs.declared.form.Form.TheVariants.{Raw, Demo, SelfDelimited}
+use Rattle.pack_records.specs.declared.item.Found.TheVariants.{Packet, Lost, Bad}
+use Rattle.pack_records.specs.declared.item.Item.{Item}
+use Rattle.pack_records.specs.Holds.{record_of, bad_record, lost_record}
+use Rattle.pack_jobs.specs.declared.refusal.Why.TheVariants.{Fault, PaddingLong, StoreCut}
+use Rattle.pack_jobs.specs.Refusal.{refusal_of, refusal_text, fault_text}
+use Rattle.pack_jobs.specs.Norm.{norm}
+use Rattle.pack_jobs.specs.Check.{check, check_line}
+use Rattle.pack_jobs.specs.Written.{lines_from}
+
+-- a store: one frame AA with range 1, a lost packet with range 9, and FB 07, which lasts too long
+abbrev one : Shown Item
+one = record_of 8 10 1 (Packet Whole (shape_of 0 false 0) 2) (0xF8 ∷ 0xAA ∷ [])
+
+abbrev gone : Shown Item
+gone = lost_record 18 9
+
+abbrev long : Shown Item
+long = bad_record 26 0 (fault R5 1) 2
+
+norm_keeps_ranges_and_lost_ones : outcome (norm Demo Drop) (one ∷ gone ∷ []) Closed
+    ≡ going (0 ∷ 0 ∷ 0 ∷ 2 ∷ 0 ∷ 0 ∷ 0 ∷ 1 ∷ 0xF8 ∷ 0xAA ∷ 0 ∷ 0 ∷ 0 ∷ 0 ∷ 0 ∷ 0 ∷ 0 ∷ 9 ∷ []) tt
+norm_keeps_ranges_and_lost_ones = refl
+
+norm_stops_at_a_bad_one : outcome (norm Demo Drop) (gone ∷ long ∷ one ∷ []) Closed
+    ≡ broke (0 ∷ 0 ∷ 0 ∷ 0 ∷ 0 ∷ 0 ∷ 0 ∷ 9 ∷ []) (refusal_of 1 27 (Fault (fault R5 1)))
+norm_stops_at_a_bad_one = refl
+
+norm_names_a_cut : outcome (norm Demo Drop) (gone ∷ []) (Cut (record { place = 29 }))
+    ≡ broke (0 ∷ 0 ∷ 0 ∷ 0 ∷ 0 ∷ 0 ∷ 0 ∷ 9 ∷ []) (refusal_of 1 29 StoreCut)
+norm_names_a_cut = refl
+
+-- 65,794 bytes of padding have 65,535 behind their length, which are kept; one more is not
+abbrev padded : ℕ → Shown Item
+padded pad = record_of 0 65798 0 (Packet Whole (shape_of 3 false pad) 65798) (0xF8 ∷ 0xAA ∷ [])
+
+long_padding_is_refused : outcome (norm Raw Keep) (padded 65795 ∷ []) Closed
+    ≡ broke [] (refusal_of 0 65798 PaddingLong)
+long_padding_is_refused = refl
+
+long_padding_is_dropped : outcome (norm Raw Drop) (padded 65795 ∷ []) Closed ≡ going (0xF8 ∷ 0xAA ∷ []) tt
+long_padding_is_dropped = refl
+
+the_most_padding_is_kept : outcome (norm Raw Keep) (padded 65794 ∷ []) Closed ≡ going (0xF8 ∷ 0xAA ∷ []) tt
+the_most_padding_is_kept = refl
+
+-- lines, with the digits of their numbers
+abbrev lines : List ℕ → List ℕ → List ℕ → List ℕ
+lines none first second =
+    (none ++ codes " " ++ codes "ok" ++ 10 ∷ [])
+    ++ ((first ++ codes " " ++ (codes "R5" ++ codes " at " ++ first) ++ 10 ∷ [])
+    ++ ((second ++ codes " " ++ codes "lost" ++ 10 ∷ []) ++ []))
+
+three_lines : lines_from 0 (one ∷ long ∷ gone ∷ [])
+    ≡ codes "0 ok" ++ 10 ∷ codes "1 R5 at 1" ++ 10 ∷ codes "2 lost" ++ 10 ∷ []
+unfolding fault_text
+three_lines =
+    ap (λ d. lines d (decimal 1) (decimal 2)) (decimal_digit 0 (omega arith))
+    ∙ ap (λ d. lines (codes "0") d (decimal 2)) (decimal_digit 1 (omega arith))
+    ∙ ap (λ d. lines (codes "0") (codes "1") d) (decimal_digit 2 (omega arith))
+
+-- check tells all of a store, and names the first fault at the end
+check_goes_on_in_a_store : (text : List ℕ)
+    × (outcome (check Demo) (one ∷ long ∷ gone ∷ long ∷ []) Closed ≡ broke text (refusal_of 1 27 (Fault (fault R5 1))))
+check_goes_on_in_a_store = (_, refl)
+
+-- in form self nothing behind a bad one is told
+check_stops_in_form_self : (text : List ℕ)
+    × (outcome (check SelfDelimited) (long ∷ one ∷ []) Closed ≡ broke text (refusal_of 0 27 (Fault (fault R5 1))))
+    × (text ≡ check_line 0 (fault_text (fault R5 1)))
+check_stops_in_form_self = (_, refl, refl)
+
+check_is_not_refused_past_the_limit : (text : List ℕ) × (outcome (check Demo) (long ∷ []) Past ≡ going text tt)
+check_is_not_refused_past_the_limit = (_, refl)
+
+a_cut_comes_after_a_bad_one : (text : List ℕ)
+    × (outcome (check Demo) (long ∷ []) (Cut (record { place = 30 })) ≡ broke text (refusal_of 0 27 (Fault (fault R5 1))))
+a_cut_comes_after_a_bad_one = (_, refl)
+
+a_cut_alone_is_named : (text : List ℕ)
+    × (outcome (check Demo) (gone ∷ []) (Cut (record { place = 30 })) ≡ broke text (refusal_of 1 30 StoreCut))
+a_cut_alone_is_named = (_, refl)
+
+abbrev text_of_a_fault : List ℕ → List ℕ
+text_of_a_fault digits = codes "R5" ++ codes " at " ++ digits
+
+texts : refusal_text (Fault (fault R5 1)) ≡ codes "R5 at 1"
+unfolding fault_text
+texts = ap text_of_a_fault (decimal_digit 1 (omega arith))

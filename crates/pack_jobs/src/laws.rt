@@ -1,0 +1,89 @@
+//! Laws on the jobs over packets: each is the contract of a function that does nothing.
+ghost use Rattle.std.specs.Prelude.{◌≡◌, ◌≢◌, ◌↔◌, ◌≤◌, ◌<◌, ◌^◌, ℕ, List, [], ◌∷◌, ◌++◌, Some, None, length, flat_map};
+ghost use Rattle.job_loop.specs.Shown.{Shown};
+ghost use Rattle.job_loop.specs.Meaning.{going, broke, outcome, run_text};
+ghost use Rattle.job_loop.specs.declared.input_end.InputEnd.{InputEnd};
+ghost use Rattle.job_loop.specs.declared.input_end.InputEnd.TheVariants as ends;
+ghost use Rattle.opus_packet.specs.Value.{PacketValue, IsPacketValue};
+ghost use Rattle.opus_packet.specs.Tail.{max_tail};
+ghost use Rattle.opus_feed.specs.declared.framing.Framing.{Framing};
+ghost use Rattle.opus_feed.specs.declared.padding.Padding.{Padding};
+ghost use Rattle.opus_words.specs.declared.form.Form.{Form};
+ghost use Rattle.opus_words.specs.declared.form.Form.TheVariants.{SelfDelimited};
+ghost use Rattle.pack_records.specs.declared.cut.Cut.{Cut};
+ghost use Rattle.pack_records.specs.declared.item.Item.{Item};
+ghost use Rattle.pack_records.specs.Fits.{form_of};
+ghost use Rattle.pack_jobs.specs.declared.refusal.Why.TheVariants.{StoreCut};
+ghost use Rattle.pack_jobs.specs.declared.refusal.Refusal.{Refusal};
+ghost use Rattle.pack_jobs.specs.Refusal.{told, refusal_of};
+ghost use Rattle.pack_jobs.specs.Norm.{norm};
+ghost use Rattle.pack_jobs.specs.Check.{check};
+ghost use Rattle.pack_jobs.specs.Written.{normal_record, AreTaken, FirstRefused, AreGood, FirstBad, lines_from, IsUncut};
+ghost use Rattle.pack_jobs.specs.SameRecords.{AreRecordsOf, AgreeOneByOne};
+ghost use Rattle.pack_jobs.specs.PackEnds.{ends_in};
+ghost use Rattle.pack_jobs.specs.Again.{IsReadAgain};
+
+/// What norm writes for records is their canonical records joined, exactly where it takes them all and no cut follows.
+/// Refused, it has written the records before the refused one, or all before the cut.
+pub fn norm_writes_each_record_in_its_kept_form()
+    ensures taken { (form : Form) (padding : Padding) (rs : List (Shown Item)) (end : InputEnd Cut)
+        (text : List ℕ) → (outcome (norm form padding) rs end ≡ going text tt)
+        ↔ (AreTaken padding rs × IsUncut end × (text ≡ flat_map (normal_record form) rs)) }
+    ensures refused { (form : Form) (padding : Padding) (rs : List (Shown Item)) (end : InputEnd Cut)
+        (f : Refusal) (at : FirstRefused padding rs f)
+        → outcome (norm form padding) rs end ≡ broke (flat_map (normal_record form) at.before) f }
+    ensures cut { (form : Form) (padding : Padding) (rs : List (Shown Item)) (c : Cut) → AreTaken padding rs
+        → outcome (norm form padding) rs (ends.Cut c)
+        ≡ broke (flat_map (normal_record form) rs) (refusal_of (told (length rs)) c.place StoreCut) }
+{}
+
+/// Check writes a line for each record: for all of them, but in form self none behind the first bad one.
+pub fn check_writes_a_line_for_each_record()
+    ensures all { (form : Form) (rs : List (Shown Item)) (end : InputEnd Cut) → form ≢ SelfDelimited
+        → run_text (outcome (check form) rs end) ≡ lines_from 0 rs }
+    ensures good { (form : Form) (rs : List (Shown Item)) (end : InputEnd Cut) → AreGood rs
+        → run_text (outcome (check form) rs end) ≡ lines_from 0 rs }
+    ensures self_delimited { (rs : List (Shown Item)) (end : InputEnd Cut) (f : Refusal)
+        (at : FirstBad rs f) → outcome (check SelfDelimited) rs end
+        ≡ broke (lines_from 0 (at.before ++ at.first ∷ [])) f }
+{}
+
+/// Check refuses an input for its first bad record, or where none is bad for the cut of its store, and past the limit
+/// for neither, but in form self.
+pub fn check_names_the_first_fault()
+    ensures bad { (form : Form) (rs : List (Shown Item)) (end : InputEnd Cut) (f : Refusal)
+        → FirstBad rs f → end ≢ ends.Past
+        → (text : List ℕ) × (outcome (check form) rs end ≡ broke text f) }
+    ensures cut { (form : Form) (rs : List (Shown Item)) (c : Cut) → AreGood rs
+        → outcome (check form) rs (ends.Cut c)
+        ≡ broke (lines_from 0 rs) (refusal_of (told (length rs)) c.place StoreCut) }
+    ensures closed { (form : Form) (rs : List (Shown Item)) → AreGood rs
+        → outcome (check form) rs ends.Closed ≡ going (lines_from 0 rs) tt }
+    ensures past { (form : Form) (rs : List (Shown Item)) → form ≢ SelfDelimited
+        → outcome (check form) rs ends.Past ≡ going (lines_from 0 rs) tt }
+{}
+
+/// Two inputs that norm takes have one output exactly where their records agree one by one: in range, in what is lost,
+/// and in kept form, which is that of one value with one list of kept padding bytes.
+pub fn norm_keeps_the_records_alone()
+    ensures same { (form : Form) (p q : Padding) (rs ss : List (Shown Item)) (c d : InputEnd Cut)
+        (a b : List ℕ) → AreRecordsOf form rs → AreRecordsOf form ss
+        → outcome (norm form p) rs c ≡ going a tt → outcome (norm form q) ss d ≡ going b tt
+        → (a ≡ b) ↔ AgreeOneByOne rs ss }
+    ensures forms { (framing : Framing) (v w : PacketValue) (tail rest : List ℕ)
+        → IsPacketValue v → IsPacketValue w → length tail ≤ max_tail → length rest ≤ max_tail
+        → (form_of framing v tail ≡ form_of framing w rest) ↔ ((v ≡ w) × (tail ≡ rest)) }
+{}
+
+/// What norm wrote of a whole input is a whole input of the same form, with records that agree with those one by one,
+/// and norm leaves it as it is.
+pub fn norm_leaves_what_it_wrote()
+    ensures again { (form : Form) (padding : Padding) (x : List ℕ) (rs : List (Shown Item)) (text : List ℕ)
+        → ends_in form padding x rs None → outcome (norm form padding) rs ends.Closed ≡ going text tt
+        → IsReadAgain form padding rs text }
+{}
+
+/// A number that fits into 64 bits is told as it is.
+pub fn a_number_of_64_bits_is_told_as_it_is()
+    ensures same { (n : ℕ) → n < 2 ^ 64 → told n ≡ n }
+{}

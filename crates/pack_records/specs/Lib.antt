@@ -1,0 +1,17 @@
+pub mod Fits
+pub mod Forms
+pub mod Holds
+pub mod HoldsLaws
+pub mod Early
+pub mod EarlyLaws
+pub mod Pieces
+pub mod Settled
+pub mod SettledLaws
+pub mod Raw
+pub mod RawLaws
+pub mod Framed
+pub mod FramedLaws
+pub mod Demo
+pub mod DemoForm
+pub mod DemoRests
+pub mod DemoLaws

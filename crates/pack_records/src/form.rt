@@ -1,0 +1,82 @@
+//! The kept form of a packet, written where there is room for it.
+ghost use Rattle.std.specs.Prelude.{◌≡◌, ◌≤◌, ℕ, List, [], true, vec_capacity};
+ghost use Rattle.opus_packet.specs.Tail.{kept_bytes, tail_of};
+ghost use Rattle.pack_records.specs.Forms.{IsFormOf};
+ghost use Rattle.opus_packet.specs.Canonical.{kept_form, kept_self_delimited};
+ghost use Rattle.pack_records.specs.Fits.{form_of};
+
+use opus_feed::{Framing, Padding};
+use opus_packet::{Packet, Tail};
+use opus_writer::{
+    canon_self_size, canon_size, keep_self_size, keep_size, write_canon, write_canon_self,
+    write_keep, write_keep_self,
+};
+
+/// Room for every kept form, in bytes.
+pub(crate) const MOST_KEPT: usize = 192_628;
+
+/// Writes the kept form with the padding bytes that the packet has, in place of what was there.
+#[cold]
+#[inline(never)]
+pub(crate) fn write_form(framing: Framing, packet: &Packet<'_>, out: &mut Vec<u8>)
+    requires room { 192628 ≤ vec_capacity out.old }
+    ensures form { out.new.items ≡ form_of framing packet.now.value (kept_bytes packet.now.tail) }
+    ensures room { 192628 ≤ vec_capacity out.new }
+{
+    out.clear();
+    match framing {
+        Framing::Whole => write_whole(packet, out),
+        Framing::SelfDelimited => write_delimited(packet, out),
+    }
+}
+
+fn write_whole(packet: &Packet<'_>, out: &mut Vec<u8>)
+    requires room { 192628 ≤ vec_capacity out.old }
+    requires none { out.old.items ≡ [] }
+    ensures form { out.new.items ≡ kept_form packet.now.value (kept_bytes packet.now.tail) }
+    ensures room { 192628 ≤ vec_capacity out.new }
+{
+    match packet.tail() {
+        Tail::Bytes(_) => {
+            let _ = keep_size(packet);
+            write_keep(packet, out).unwrap();
+        }
+        Tail::Dropped(_) => {
+            let _ = canon_size(packet);
+            write_canon(packet, out).unwrap();
+        }
+    }
+}
+
+fn write_delimited(packet: &Packet<'_>, out: &mut Vec<u8>)
+    requires room { 192628 ≤ vec_capacity out.old }
+    requires none { out.old.items ≡ [] }
+    ensures form { out.new.items ≡ kept_self_delimited packet.now.value (kept_bytes packet.now.tail) }
+    ensures room { 192628 ≤ vec_capacity out.new }
+{
+    match packet.tail() {
+        Tail::Bytes(_) => {
+            let _ = keep_self_size(packet);
+            write_keep_self(packet, out).unwrap();
+        }
+        Tail::Dropped(_) => {
+            let _ = canon_self_size(packet);
+            write_canon_self(packet, out).unwrap();
+        }
+    }
+}
+
+/// Whether a packet is spelled in its kept form, with all the padding bytes that are kept and no others.
+#[inline(always)]
+pub(crate) fn is_form(padding: Padding, packet: &Packet<'_>) -> bool
+    ensures { result ≡ true → (tail : List ℕ) → packet.now.tail ≡ tail_of tail
+        → IsFormOf padding packet.now tail }
+{
+    match packet.tail() {
+        Tail::Bytes(tail) => {
+            (padding == Padding::Keep || tail.is_empty())
+                && packet.shape() == packet.lens().keep_shape(tail.len() as u32)
+        }
+        Tail::Dropped(_) => false,
+    }
+}

@@ -1,0 +1,25 @@
+//! The records of an input of packets, in three forms: one packet that is the whole input, an `opus_demo` store,
+//! and self-delimited packets one after another.
+//!
+//! Each form is a machine for `job_loop`: fed an input in pieces of any size, it says which records its bytes decide,
+//! and lends each one. A packet is lent in its kept form, from where it lies or from memory that is taken once.
+#![tactic(auto)]
+
+mod cut;
+mod demo;
+#[cfg(test)]
+mod demo_tests;
+mod form;
+mod framed;
+mod item;
+mod pieces;
+mod raw;
+mod taken;
+#[cfg(test)]
+mod tests;
+
+pub use cut::Cut;
+pub use demo::DemoForm;
+pub use framed::SelfForm;
+pub use item::{Found, Item};
+pub use raw::RawForm;
