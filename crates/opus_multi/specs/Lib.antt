@@ -1,0 +1,10 @@
+pub mod Streams
+pub mod Durations
+pub mod Told
+pub mod Multistream
+pub mod MultistreamFault
+pub mod MultistreamPrefix
+pub mod Forms
+pub mod Readings
+pub mod Joins
+pub mod Parts

@@ -1,0 +1,19 @@
+//! Multistream Opus packets (RFC 7845, section 3): the self-delimited packets of all streams but the last, and then the
+//! undelimited packet of the last, all of one duration.
+#![tactic(auto)]
+
+mod durations;
+mod fault;
+mod joined;
+pub mod laws;
+mod list;
+mod multi;
+mod part;
+#[cfg(test)]
+mod tests;
+
+pub use fault::{JoinFault, MultiFault};
+pub use joined::join;
+pub use list::{write_multi, write_multi_kept};
+pub use multi::{Multi, decode_multi};
+pub use part::Part;

@@ -1,0 +1,151 @@
+//! The written forms appended to a list.
+ghost use Rattle.std.specs.Prelude.{◌≡◌, ◌+◌, ◌++◌, ◌≤◌, List, length, map, vec_len, vec_capacity, OnOk, OnErr, IfSome, flat_map};
+ghost use Rattle.std.specs.List.{AllByRecursion};
+ghost use Rattle.opus_packet.specs.Tail.{kept, IsKept};
+ghost use Rattle.opus_packet.specs.Held.{HeldRead};
+ghost use Rattle.opus_packet.specs.Canonical.{canonical, canonical_self_delimited};
+ghost use Rattle.opus_multi.specs.Forms.{canonical_multistream, kept_multistream, kept_of, kept_self_of};
+ghost use Rattle.opus_multi.specs.Joins.{held_durations};
+ghost use Rattle.opus_multi.specs.Durations.{HaveOneDuration};
+
+use crate::part::Part;
+use opus_io::NoMemory;
+use opus_packet::{Held, Packet};
+use opus_writer::{
+    canon_self_size, canon_size, keep_self_size, keep_size, write_canon, write_canon_self,
+    write_keep, write_keep_self,
+};
+
+/// What owns a packet's value.
+pub(crate) trait Owns {
+    /// The value, and the padding bytes that are kept with it.
+    ghost held: { Self → HeldRead };
+
+    /// The value as a packet.
+    fn packet(&self) -> Packet<'_>
+        ensures value { result.value ≡ (held self.now).value }
+        ensures tail { result.tail ≡ kept (held self.now).tail }
+        ensures kept { IsKept result.tail };
+}
+
+impl Owns for Held {
+    ghost held = { λ h. h };
+
+    fn packet(&self) -> Packet<'_> {
+        let packet = self.view();
+        // Known of every tail: no more bytes are kept than may be.
+        let _ = packet.tail();
+        packet
+    }
+}
+
+impl Owns for Part {
+    ghost held = { λ p. p.held };
+
+    fn packet(&self) -> Packet<'_> {
+        self.held.packet()
+    }
+}
+
+/// Appends the canonical multistream form of parts that all last as long: the canonical self-delimited forms of all but
+/// the last, and the canonical form of the last. Where memory is refused nothing is appended.
+pub fn write_multi(parts: &[Part], out: &mut Vec<u8>) -> Result<(), NoMemory>
+    requires some { 1 ≤ length parts.now }
+    requires equal { HaveOneDuration (held_durations (map (λ p. p.held) parts.now)) }
+    ensures ok { OnOk result (out.new.items
+        ≡ out.old.items ++ canonical_multistream (map (λ p. p.held.value) parts.now)) }
+    ensures err { OnErr result (out.new.items ≡ out.old.items) }
+{
+    write_canonical(parts, out)
+}
+
+/// Appends the kept multistream form: the kept self-delimited forms of all but the last, and the kept form of the last.
+/// It asks what `write_multi` asks, and that no padding bytes were dropped. Where memory is refused nothing is appended.
+pub fn write_multi_kept(parts: &[Part], out: &mut Vec<u8>) -> Result<(), NoMemory>
+    requires some { 1 ≤ length parts.now }
+    requires equal { HaveOneDuration (held_durations (map (λ p. p.held) parts.now)) }
+    requires kept { AllByRecursion (λ p. p.dropped ≡ 0) parts.now }
+    ensures ok { OnOk result (out.new.items
+        ≡ out.old.items ++ kept_multistream (map (λ p. p.held) parts.now)) }
+    ensures err { OnErr result (out.new.items ≡ out.old.items) }
+{
+    let Some((last, front)) = parts.split_last() else {
+        return Ok(());
+    };
+    let Some(size) = kept_front_size(front) else {
+        return Err(NoMemory);
+    };
+    let Some(size) = size.checked_add(keep_size(&last.packet()) as usize) else {
+        return Err(NoMemory);
+    };
+    out.reserve(size)?;
+    write_kept_front(front, out);
+    write_keep(&last.packet(), out)
+}
+
+// Appends the kept self-delimited forms of these, for which there is room.
+fn write_kept_front(front: &[Part], out: &mut Vec<u8>)
+    requires room { vec_len out.old
+        + length (flat_map (λ p. kept_self_of p.held) front.now) ≤ vec_capacity out.old }
+    ensures items { out.new.items ≡ out.old.items ++ flat_map (λ p. kept_self_of p.held) front.now }
+    ensures capacity { vec_capacity out.old ≤ vec_capacity out.new }
+{
+    for part in front {
+        write_keep_self(&part.packet(), out).unwrap();
+    }
+}
+
+/// Appends the canonical multistream form of what these own.
+pub(crate) fn write_canonical<T: Owns>(parts: &[T], out: &mut Vec<u8>) -> Result<(), NoMemory>
+    ensures ok { OnOk result (out.new.items
+        ≡ out.old.items ++ canonical_multistream (map (λ p. (T.held p).value) parts.now)) }
+    ensures err { OnErr result (out.new.items ≡ out.old.items) }
+{
+    let Some((last, front)) = parts.split_last() else {
+        return Ok(());
+    };
+    let Some(size) = front_size(front) else {
+        return Err(NoMemory);
+    };
+    let Some(size) = size.checked_add(canon_size(&last.packet()) as usize) else {
+        return Err(NoMemory);
+    };
+    out.reserve(size)?;
+    write_front(front, out);
+    write_canon(&last.packet(), out)
+}
+
+// Appends the canonical self-delimited forms of these, for which there is room.
+fn write_front<T: Owns>(front: &[T], out: &mut Vec<u8>)
+    requires room { vec_len out.old
+        + length (flat_map (λ p. canonical_self_delimited (T.held p).value) front.now) ≤ vec_capacity out.old }
+    ensures items { out.new.items
+        ≡ out.old.items ++ flat_map (λ p. canonical_self_delimited (T.held p).value) front.now }
+    ensures capacity { vec_capacity out.old ≤ vec_capacity out.new }
+{
+    for part in front {
+        write_canon_self(&part.packet(), out).unwrap();
+    }
+}
+
+// Bytes of the canonical self-delimited forms of these.
+fn front_size<T: Owns>(front: &[T]) -> Option<usize>
+    ensures { IfSome result (λ size. size ≡ length (flat_map (λ p. canonical_self_delimited (T.held p).value) front.now)) }
+{
+    let mut size: usize = 0;
+    for part in front {
+        size = size.checked_add(canon_self_size(&part.packet()) as usize)?;
+    }
+    Some(size)
+}
+
+// Bytes of the kept self-delimited forms of these.
+fn kept_front_size(front: &[Part]) -> Option<usize>
+    ensures { IfSome result (λ size. size ≡ length (flat_map (λ p. kept_self_of p.held) front.now)) }
+{
+    let mut size: usize = 0;
+    for part in front {
+        size = size.checked_add(keep_self_size(&part.packet()) as usize)?;
+    }
+    Some(size)
+}

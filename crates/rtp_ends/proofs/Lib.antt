@@ -1,0 +1,17 @@
+pub mod SentLemmas
+pub mod StandardFacts
+pub mod ReportFacts
+pub mod NumberLemmas
+pub mod OrderLemmas
+pub mod AscendLemmas
+pub mod SlotLemmas
+pub mod WindowLemmas
+pub mod RingLemmas
+pub mod EventLemmas
+pub mod HoldingLemmas
+pub mod CertainLemmas
+pub mod ReceiverLemmas
+pub mod ArrivedLemmas
+pub mod UnwrapLemmas
+pub mod FrontLemmas
+pub mod FirstLemmas

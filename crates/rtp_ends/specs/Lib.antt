@@ -1,0 +1,10 @@
+pub mod Sent
+pub mod SentLaws
+pub mod Sends
+pub mod Numbers
+pub mod Order
+pub mod Report
+pub mod Slots
+pub mod Holding
+pub mod Receives
+pub mod ReportLaws
