@@ -1,12 +1,12 @@
 -- A receiver's state, and the arrivals that it stands for.
-use Rattle.std.proofs.Common.{◌≡◌, ℕ, ◌+◌, ◌<◌, max, nat_eq, Bool, true, false, ◌||◌, if◌then◌else◌, List, [], ◌∷◌, ◌++◌, length, None, refl, ap, sym, ◌∙◌, append-nil, arith}
+use Rattle.std.proofs.Common.{◌≡◌, ℕ, ◌+◌, ◌<◌, max, nat_eq, Bool, true, false, ◌||◌, if◌then◌else◌, List, [], ◌∷◌, ◌++◌, length, None, Result, Ok, Err, OnErr, refl, ap, sym, ◌∙◌, append-nil, arith}
 use Rattle.rtp_ends.specs.declared.event.Event.{Event}
 use Rattle.rtp_ends.specs.Numbers.{Heard, Placed, place_after, IsPlaceAfter, placed_at, placed, greatest_of, next_place}
 use Rattle.rtp_ends.specs.Order.{put, ordered}
 use Rattle.rtp_ends.specs.Report.{events_of, settled, certain_events, arrival_report}
 use Rattle.rtp_ends.specs.Slots.{has_place}
 use Rattle.rtp_ends.specs.Holding.{Held, Gave, events_since}
-use Rattle.rtp_ends.specs.Receives.{ReceiverState, StandsHaving, IsGreatest, place_in, IsPlaceIn, top_from, held_of, GivesOut, open_arrivals, open_of}
+use Rattle.rtp_ends.specs.Receives.{ReceiverState, StandsHaving, IsGreatest, place_in, IsPlaceIn, ReceiverStands, top_from, held_of, GivesOut, open_arrivals, open_of}
 use Rattle.rtp_ends.proofs.NumberLemmas.{placed-more, greatest_of-more}
 use Rattle.rtp_ends.proofs.OrderLemmas.{ordered-more, gt-other, has-less, has_place-append, has_place-ordered}
 use Rattle.rtp_ends.proofs.EventLemmas.{events_since-append}
@@ -121,3 +121,13 @@ pub first-from : (s : ReceiverState) (heard : List Heard) (told : List Placed) (
 first-from s [] told place top is begins none =
     begins ∙ ap (λ n. if nat_eq n 0 then place else s.top) is.count
 first-from s (h ∷ hs) told place top is begins none = absurd cc
+
+-- a place that isn't kept is that of a first arrival
+pub first-arrival : {T E : Type 0} → (r : Result T E) (s : ReceiverState) (seq place : ℕ) → place ≡ place_in s seq
+    → (0 < s.arrivals → s.top < place + 32768) → has_place place s.kept ≡ false
+    → OnErr r ((heard : List Heard) → ReceiverStands s heard → has_place (next_place heard seq) (placed heard) ≡ false)
+first-arrival (Ok answer) s seq place is near free = tt
+first-arrival (Err error) s seq place is near free = λ heard stands.
+    ap (λ p. has_place p (placed heard)) (sym (is ∙ place-next s heard stands.0 seq stands.1))
+    ∙ sym (has-is s heard stands.0 place stands.1 near)
+    ∙ free

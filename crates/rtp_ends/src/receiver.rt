@@ -32,7 +32,7 @@ impl Model for Receiver {
 }
 
 impl Receiver {
-    ghost use Rattle.rtp_ends.specs.Numbers.{Heard, IsPlaceAfter};
+    ghost use Rattle.rtp_ends.specs.Numbers.{Heard, IsPlaceAfter, next_place, placed};
     ghost use Rattle.rtp_ends.specs.Report.{certain_events, arrival_report};
     ghost use Rattle.rtp_ends.specs.Slots.{has_place};
     ghost use Rattle.rtp_ends.specs.Holding.{room_for};
@@ -51,8 +51,8 @@ impl Receiver {
     }
 
     /// Takes a packet as it arrives, and appends what has become certain with it: every number of at most the greatest one
-    /// less 32,768 is out afterwards. Of a repeat only the count of arrivals is kept. Where there is no memory, nothing
-    /// changes.
+    /// less 32,768 is out afterwards. Of a repeat only the count of arrivals is kept, and no memory is asked for. Where
+    /// there is no memory, nothing changes.
     pub fn arrive(
         &mut self,
         seq: u16,
@@ -68,6 +68,8 @@ impl Receiver {
         ensures arrivals { OnOk result (self.new.arrivals ≡ self.old.arrivals + 1) }
         ensures err { OnErr result (out.new.items ≡ out.old.items) }
         ensures kept { OnErr result (self.new ≡ self.old) }
+        ensures first { OnErr result ((heard : List Heard) → ReceiverStands self.old heard
+            → has_place (next_place heard seq) (placed heard) ≡ false) }
     {
         let place = self.place_of(seq);
         if self.has(place) {
@@ -89,6 +91,7 @@ impl Receiver {
         ensures arrivals { OnOk result (self.new.arrivals ≡ 0) }
         ensures err { OnErr result (out.new.items ≡ out.old.items) }
         ensures kept { OnErr result (self.new ≡ self.old) }
+        ensures full { OnErr result (vec_capacity out.old < vec_len out.old + 2 * length self.old.kept) }
     {
         out.reserve(2 * self.buffer.held())?;
         self.buffer.finish(out);

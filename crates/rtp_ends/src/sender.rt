@@ -68,6 +68,9 @@ impl Sender {
             → SenderStands self.new (records ++ Some packet.now.value ∷ [])) }
         ensures sent { OnOk result (self.new.sent ≡ self.old.sent + 1) }
         ensures first { self.new.first ≡ self.old.first }
+        ensures length { OnOk result (vec_len out.new
+            ≡ vec_len out.old + (12 + length (canonical packet.now.value))) }
+        ensures most { length (canonical packet.now.value) ≤ 61295 }
         ensures err { OnErr result (out.new.items ≡ out.old.items) }
         ensures kept { OnErr result (self.new ≡ self.old) }
         ensures full { OnErr result (vec_capacity out.old
@@ -137,6 +140,7 @@ fn push_packet(fields: RtpFields, packet: &Packet<'_>, out: &mut Vec<u8>)
     requires payload_type { fields.payload_type < 2 ^ 7 }
     requires room { vec_len out.old + (12 + length (canonical packet.now.value)) ≤ vec_capacity out.old }
     ensures bytes { out.new.items ≡ out.old.items ++ plain_bytes fields (canonical packet.now.value) }
+    ensures length { vec_len out.new ≡ vec_len out.old + (12 + length (canonical packet.now.value)) }
     ensures capacity { vec_capacity out.old ≤ vec_capacity out.new }
 {
     write_rtp(fields, &[], out).unwrap();

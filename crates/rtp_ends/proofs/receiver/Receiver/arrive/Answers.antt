@@ -3,7 +3,7 @@ use Rattle.rtp_ends.specs.declared.event.Event.{Event}
 use Rattle.rtp_ends.specs.Numbers.{Placed, placed_at}
 use Rattle.rtp_ends.specs.Slots.{has_place}
 use Rattle.rtp_ends.specs.Receives.{Keeps}
-use Rattle.rtp_ends.proofs.ReceiverLemmas.{place-next, kept-none, above-from, first-from}
+use Rattle.rtp_ends.proofs.ReceiverLemmas.{first-arrival, place-next, kept-none, above-from, first-from}
 use Rattle.rtp_ends.proofs.ArrivedLemmas.{arrived-repeat, arrived-new}
 use Rattle.rtp_ends.proofs.receiver.Receiver.arrive.Goals as goal
 
@@ -37,3 +37,15 @@ returns-clause-ok c = λ heard is.
     (record { stamp = c.args.stamp; payload = c.in_ok-payload.payload }) l c.keep.new.out.items)
     c.in_ok-make_room.ensures.items c.keep.ensures)
     c.new_at.ensures
+
+pub returns-in_err-payload-clause-first : goal.returns-in_err-payload-clause-first
+returns-in_err-payload-clause-first c =
+    first-arrival c.from_residual.result c.args.self.now c.args.seq c.place_of-place.result
+    c.place_of-place.ensures.place (λ some. (c.place_of-place.ensures.is.later some).above)
+    (sym c.has.ensures ∙ c.if-has.false)
+
+pub returns-in_err-make_room-clause-first : goal.returns-in_err-make_room-clause-first
+returns-in_err-make_room-clause-first c =
+    first-arrival c.from_residual-in_err-make_room.result c.args.self.now c.args.seq c.place_of-place.result
+    c.place_of-place.ensures.place (λ some. (c.place_of-place.ensures.is.later some).above)
+    (sym c.has.ensures ∙ c.if-has.false)
