@@ -1,5 +1,5 @@
 -- Small inputs, computed from the definitions.
-use Rattle.std.proofs.Common.{◌≡◌, false, [], ◌∷◌, refl, arith}
+use Rattle.std.proofs.Common.{◌≡◌, false, [], ◌∷◌, None, Some, refl, arith}
 use Rattle.opus_toc.specs.Configuration.{samples_of, row_of}
 use Rattle.opus_flen.specs.PaddingLength.{most_full}
 use Rattle.opus_packet.specs.declared.fault.Rule.TheVariants.{R5, Cut}
@@ -14,6 +14,7 @@ use Rattle.opus_feed.specs.declared.padding.Padding.TheVariants.{Drop}
 use Rattle.pack_records.specs.declared.item.Found.TheVariants.{Packet, Bad}
 use Rattle.pack_records.specs.Framed.{Shows, end_records}
 use Rattle.pack_records.specs.Holds.{record_of}
+use Rattle.pack_records.specs.Lent.{lent_value}
 use Rattle.pack_records.specs.Settled.{early_records}
 
 -- a fault before the end is settled, and its place counts from the record's first byte
@@ -88,3 +89,25 @@ two_records = (
   record { value = two_bytes; shape = shape_of 0 false 0; tail = []; reads = first_packet; shows = refl },
   (record { value = no_byte; shape = shape_of 0 false 0; tail = []; reads = second_packet; shows = refl }, refl),
 )
+
+-- the value that lent bytes spell
+
+pub two_frames : PacketValue
+two_frames = record { config = 31; stereo = false; frames = (0xAA ∷ 0xBB ∷ []) ∷ (0xCC ∷ []) ∷ [] }
+
+lent_two_frames : lent_value Whole (0xFA ∷ 0x02 ∷ 0xAA ∷ 0xBB ∷ 0xCC ∷ []) ≡ Some two_frames
+unfolding lent_value two_frames header_read header_bytes samples_of row_of most_full
+lent_two_frames = refl
+
+lent_two_frames_delimited : lent_value SelfDelimited (0xFA ∷ 0x02 ∷ 0x01 ∷ 0xAA ∷ 0xBB ∷ 0xCC ∷ []) ≡ Some two_frames
+unfolding lent_value two_frames header_read header_bytes samples_of row_of most_full
+lent_two_frames_delimited = refl
+
+-- a byte too few, and a byte too many
+lent_odd_frames : lent_value Whole (0xF9 ∷ 0xAA ∷ []) ≡ None
+unfolding lent_value header_read header_bytes samples_of row_of most_full
+lent_odd_frames = refl
+
+lent_and_more : lent_value SelfDelimited (0xF8 ∷ 0x00 ∷ 0xAA ∷ []) ≡ None
+unfolding lent_value header_read header_bytes samples_of row_of most_full
+lent_and_more = refl

@@ -34,7 +34,7 @@ kept_small Keep tail same = go (nat_le (length tail) max_tail) refl same
     go true few all = leb-true (length tail) max_tail few
     go false many none = let empty : 0 ≡ length tail = ap length none in omega arith
 
-value_of : (framing : Framing) (v : PacketValue) (s : Shape) (tail bytes : List ℕ) → Reads framing v s tail bytes
+pub value_of : (framing : Framing) (v : PacketValue) (s : Shape) (tail bytes : List ℕ) → Reads framing v s tail bytes
     → IsPacketValue v
 value_of Whole v s tail bytes reads = reads.value
 value_of SelfDelimited v s tail bytes reads = reads.value

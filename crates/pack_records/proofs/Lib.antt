@@ -1,5 +1,6 @@
 mod FormFacts
 pub mod FormLemmas
+pub mod LentLemmas
 pub mod TakenLemmas
 pub mod StandardFacts
 pub mod RawLemmas

@@ -1,4 +1,5 @@
 pub mod Fits
+pub mod Lent
 pub mod Forms
 pub mod Holds
 pub mod HoldsLaws

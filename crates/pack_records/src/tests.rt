@@ -1,6 +1,7 @@
 //! What each form says of rows of inputs, in pieces of several sizes.
 
 mod framed;
+mod lent;
 mod raw;
 mod runs;
 
