@@ -25,7 +25,7 @@ meant_no_memory (Ok job) limit seen source out fits =
     let s = seen source out in
     let form = form_in job in
     let padding = padding_in job in
-    unstarted_kind job.kind (is_pack job.kind job (fits job refl).built) form padding (settles_in form padding)
+    unstarted_kind job.kind (is_pack job.kind job (fits job refl).built) job (settles_in form padding)
     (ends_in form padding) limit s.left s.reads s.contents s.writes s.refusals (source ≡ source) refl
     (none_settled form padding)
 meant_no_memory (Err kind) limit seen source out fits = (refl, refl, refl)

@@ -1,7 +1,7 @@
 -- What the job check makes of records.
 use Rattle.std.proofs.Common.{◌≡◌, ◌≢◌, ℕ, ◌+◌, List, [], ◌∷◌, ◌++◌, length, Option, None, Some, refl, sym, ap, ◌∙◌, append_assoc, append-nil, arith}
 use Rattle.job_loop.specs.Shown.{Shown}
-use Rattle.job_loop.specs.Meaning.{Run, going, broke, goes, stops, adds, onward, runs, closes, outcome, run_text}
+use Rattle.job_loop.specs.Meaning.{Run, going, broke, adds, onward, runs, closes, outcome, run_text}
 use Rattle.job_loop.specs.declared.input_end.InputEnd.{InputEnd}
 use Rattle.job_loop.specs.declared.input_end.InputEnd.TheVariants as ends
 use Rattle.opus_packet.specs.declared.fault.Fault.{Fault}
@@ -14,7 +14,7 @@ use Rattle.pack_records.specs.declared.item.Item.{Item}
 use Rattle.pack_jobs.specs.declared.refusal.Why.TheVariants.{StoreCut}
 use Rattle.pack_jobs.specs.declared.refusal.Refusal.{Refusal}
 use Rattle.pack_jobs.specs.Refusal.{told, refusal_of, refusal_at}
-use Rattle.pack_jobs.specs.Check.{CheckKept, kept_of, check_line, found_text, first_refusal, first_then, check_found, check_end, check}
+use Rattle.pack_jobs.specs.Check.{CheckKept, kept_of, check_line, found_text, first_then, check_found, check_end, check}
 use Rattle.pack_jobs.specs.Written.{IsGood, AreGood, FirstBad, lines_from}
 use Rattle.pack_jobs.proofs.RunLemmas.{runs-broke}
 

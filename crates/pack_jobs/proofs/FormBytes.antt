@@ -8,11 +8,11 @@ use Rattle.opus_flen.specs.PaddingLength.{padding_bytes}
 use Rattle.opus_packet.specs.declared.shape.Shape.{Shape}
 use Rattle.opus_packet.specs.Value.{PacketValue, IsPacketValue, max_frame}
 use Rattle.opus_packet.specs.PacketPrefix.{AreBytes}
-use Rattle.opus_packet.specs.Header.{Sizes, equal, given, header_bytes, given_lengths, padding_length, count_and_padding, frame_count, count_byte}
+use Rattle.opus_packet.specs.Header.{equal, given, header_bytes, given_lengths, padding_length, count_and_padding, frame_count, count_byte}
 use Rattle.opus_packet.specs.HeaderRead.{shape_of}
-use Rattle.opus_packet.specs.PacketGrammar.{sizes_for, header_for}
+use Rattle.opus_packet.specs.PacketGrammar.{header_for}
 use Rattle.opus_packet.specs.SelfGrammar.{last_length}
-use Rattle.opus_packet.specs.Canonical.{canonical_shape, keep_shape, kept_form, kept_self_delimited}
+use Rattle.opus_packet.specs.Canonical.{canonical_shape, keep_shape}
 use Rattle.opus_packet.proofs.BytesLemmas.{AreBytes-append}
 use Rattle.opus_packet.proofs.CutLemmas.{lengths-each, AreLengths-take}
 use Rattle.opus_packet.proofs.LengthsReadLemmas.{AreLengths}

@@ -1,16 +1,14 @@
 -- How long the bytes are that are lent of a record.
-use Rattle.std.proofs.Common.{◌≡◌, ℕ, zero, suc, ◌+◌, ◌-◌, ◌*◌, ◌/◌, ◌^◌, ◌<◌, ◌≤◌, Bool, true, false, ◌==◌, if◌then◌else◌, List, [], ◌∷◌, ◌++◌, length, map, flat_map, sum, ap, ◌∙◌, length-append, arith}
+use Rattle.std.proofs.Common.{◌≡◌, ℕ, zero, suc, ◌+◌, ◌*◌, ◌^◌, ◌<◌, ◌≤◌, Bool, true, false, ◌==◌, if◌then◌else◌, List, [], ◌∷◌, ◌++◌, length, map, ap, ◌∙◌, length-append, arith}
 use Rattle.std.specs.List.{AllByRecursion, concat}
-use Rattle.opus_flen.specs.FrameLength.{length_bytes}
 use Rattle.opus_flen.proofs.PaddingLemmas.{length-padding_bytes-le}
 use Rattle.opus_flen.proofs.LengthLemmas.{length-length_bytes}
-use Rattle.opus_packet.specs.declared.shape.Shape.{Shape}
 use Rattle.opus_packet.specs.Value.{PacketValue, IsPacketValue, IsFrame, max_frame}
 use Rattle.opus_packet.specs.Header.{header_bytes, given_lengths, padding_length, count_and_padding, frame_count}
-use Rattle.opus_packet.specs.PacketGrammar.{sizes_for, header_in, header_for}
-use Rattle.opus_packet.specs.SelfGrammar.{last_length, self_header_bytes}
+use Rattle.opus_packet.specs.PacketGrammar.{sizes_for, header_for}
+use Rattle.opus_packet.specs.SelfGrammar.{last_length}
 use Rattle.opus_packet.specs.Tail.{max_tail}
-use Rattle.opus_packet.specs.Canonical.{canonical_shape, keep_shape, pad_total, kept_form, kept_self_delimited}
+use Rattle.opus_packet.specs.Canonical.{keep_shape, kept_form}
 use Rattle.opus_packet.proofs.CanonicalLemmas.{canonical_shape-pad}
 use Rattle.opus_packet.proofs.HeaderLemmas.{padding_length-some}
 use Rattle.opus_packet.proofs.LensLemmas.{spelled_most}

@@ -1,34 +1,29 @@
 -- What norm wrote is read again: an input of each form.
-use Rattle.std.proofs.Common.{◌≡◌, ◌⊎◌, ℕ, ◌+◌, ◌<◌, ◌≤◌, ◌^◌, List, [], ◌∷◌, ◌++◌, length, None, map, flat_map, inl, inr, refl, sym, ap, ◌∙◌, subst, append-nil, append_assoc, arith}
-use Rattle.std.specs.List.{AllByRecursion, concat}
+use Rattle.std.proofs.Common.{◌≡◌, ℕ, ◌+◌, List, [], ◌∷◌, ◌++◌, length, None, map, flat_map, inl, inr, refl, sym, ap, ◌∙◌, subst, append-nil}
+use Rattle.std.specs.List.{concat}
 use Rattle.job_loop.specs.Shown.{Shown}
 use Rattle.job_loop.specs.Meaning.{going, outcome}
 use Rattle.job_loop.specs.declared.input_end.InputEnd.TheVariants.{Closed}
-use Rattle.rec_store.specs.DemoStore.{demo_record, IsDemoRecord}
-use Rattle.rec_store.proofs.DemoLemmas.{NoWholeRecord-short}
 use Rattle.opus_packet.specs.declared.fault.Fault.{Fault}
 use Rattle.opus_packet.specs.PacketPrefix.{AreBytes}
 use Rattle.opus_packet.proofs.BytesLemmas.{AreBytes-append, AreBytes-left, AreBytes-right}
-use Rattle.opus_feed.specs.declared.framing.Framing.{Framing}
 use Rattle.opus_feed.specs.declared.framing.Framing.TheVariants.{Whole, SelfDelimited as Delimited}
 use Rattle.opus_feed.specs.declared.padding.Padding.{Padding}
 use Rattle.opus_feed.specs.Packets.{fault_of}
 use Rattle.opus_words.specs.declared.form.Form.{Form}
-use Rattle.opus_words.specs.declared.form.Form.TheVariants.{Raw, Demo, SelfDelimited}
-use Rattle.pack_records.specs.declared.item.Found.{Found}
-use Rattle.pack_records.specs.declared.item.Found.TheVariants.{Packet, Lost, Bad}
+use Rattle.opus_words.specs.declared.form.Form.TheVariants.{Raw, SelfDelimited}
 use Rattle.pack_records.specs.declared.item.Item.{Item}
-use Rattle.pack_records.specs.Holds.{HoldsPacket, HoldsBad, Holds, bad_record, lost_record}
+use Rattle.pack_records.specs.Holds.{HoldsPacket, Holds, bad_record}
 use Rattle.pack_records.specs.Raw.{RawEnds}
-use Rattle.pack_records.specs.Framed.{Shows, Framed, end_records, SelfEnds}
+use Rattle.pack_records.specs.Framed.{Shows, end_records, SelfEnds}
 use Rattle.pack_records.proofs.ShowsLemmas.{none_first}
 use Rattle.pack_jobs.specs.Norm.{norm}
-use Rattle.pack_jobs.specs.Written.{IsTaken, AreTaken, payload_of, normal_record}
-use Rattle.pack_jobs.specs.SameRecords.{IsSameRecord, AgreeOneByOne}
+use Rattle.pack_jobs.specs.Written.{IsTaken, AreTaken, normal_record}
+use Rattle.pack_jobs.specs.SameRecords.{AgreeOneByOne}
 use Rattle.pack_jobs.specs.Again.{IsReadAgain}
 use Rattle.pack_jobs.proofs.NormLemmas.{norm_taken}
 use Rattle.pack_jobs.proofs.SameLemmas.{agree_text}
-use Rattle.pack_jobs.proofs.AgainLemmas.{IsAgain, packet_again, record_again, holds_again, taken_again, same_again, payload_again}
+use Rattle.pack_jobs.proofs.AgainLemmas.{packet_again, record_again, holds_again, taken_again, same_again, payload_again}
 
 -- a record that is taken is no bad one
 pub not_bad : (padding : Padding) (r : Shown Item) (start range : ℕ) (fault : Fault) (size : ℕ) → IsTaken padding r.item.found

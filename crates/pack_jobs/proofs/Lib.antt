@@ -1,6 +1,7 @@
 pub mod DecimalLemmas
 pub mod FormSizes
 pub mod RunLemmas
+pub mod RecordLemmas
 pub mod NormLemmas
 pub mod CheckLemmas
 pub mod SameLemmas

@@ -1,7 +1,7 @@
 -- What the job norm makes of records.
 use Rattle.std.proofs.Common.{◌≡◌, ◌⊎◌, ◌↔◌, ℕ, ◌+◌, Bool, true, false, if◌then◌else◌, List, [], ◌∷◌, ◌++◌, length, flat_map, inl, inr, refl, sym, ap, ◌∙◌, subst, append_assoc, append-nil, arith}
 use Rattle.job_loop.specs.Shown.{Shown}
-use Rattle.job_loop.specs.Meaning.{Run, going, broke, goes, stops, adds, onward, runs, opened, closes, outcome}
+use Rattle.job_loop.specs.Meaning.{Run, going, broke, goes, stops, adds, onward, runs, closes, outcome}
 use Rattle.job_loop.specs.declared.input_end.InputEnd.{InputEnd}
 use Rattle.job_loop.specs.declared.input_end.InputEnd.TheVariants as ends
 use Rattle.opus_feed.specs.declared.padding.Padding.{Padding}
@@ -13,7 +13,8 @@ use Rattle.pack_records.specs.declared.item.Item.{Item}
 use Rattle.pack_jobs.specs.declared.refusal.Why.TheVariants.{PaddingLong, StoreCut}
 use Rattle.pack_jobs.specs.declared.refusal.Refusal.{Refusal}
 use Rattle.pack_jobs.specs.Refusal.{told, refusal_of, refusal_at}
-use Rattle.pack_jobs.specs.Norm.{record_bytes, is_long, norm_found, norm_end, norm}
+use Rattle.pack_jobs.specs.Records.{record_bytes}
+use Rattle.pack_jobs.specs.Norm.{is_long, norm_found, norm_end, norm}
 use Rattle.pack_jobs.specs.Written.{payload_of, normal_record, IsTaken, AreTaken, IsRefusedAs, FirstRefused, IsUncut}
 use Rattle.pack_jobs.proofs.RunLemmas.{runs-broke, going-text, going≢broke}
 

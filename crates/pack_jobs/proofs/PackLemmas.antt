@@ -1,5 +1,5 @@
 -- A run of a job over packets: want of memory, and the places of records.
-use Rattle.std.proofs.Common.{◌≡◌, ◌⊎◌, ℕ, List, [], Bool, true, Option, None, Some, IfSome, inl, inr, refl, sym, subst, arith}
+use Rattle.std.proofs.Common.{◌≡◌, ◌⊎◌, ℕ, List, [], Bool, Option, None, Some, IfSome, inl, inr, refl, sym, subst, arith}
 use Rattle.std.proofs.KnownBytes.{Consumes-nil}
 use Rattle.opus_io.specs.Cause.{Rose}
 use Rattle.opus_io.specs.Outside.{Outside}
@@ -12,7 +12,6 @@ use Rattle.job_loop.specs.declared.ending.Ending.TheVariants as endings
 use Rattle.job_loop.proofs.InnerLemmas.{unstarted}
 use Rattle.opus_feed.specs.declared.framing.Framing.TheVariants.{Whole}
 use Rattle.opus_feed.specs.declared.padding.Padding.{Padding}
-use Rattle.opus_feed.specs.Packets.{fault_of}
 use Rattle.opus_words.specs.declared.ending.Ending as program
 use Rattle.opus_words.specs.declared.ending.Ending.TheVariants.{NoMemory}
 use Rattle.opus_words.specs.declared.form.Form.{Form}
@@ -29,7 +28,7 @@ use Rattle.pack_records.proofs.ShowsLemmas.{none_first, nil_early}
 use Rattle.pack_jobs.specs.declared.refusal.Refusal.{Refusal}
 use Rattle.pack_jobs.specs.Norm.{norm}
 use Rattle.pack_jobs.specs.Check.{check}
-use Rattle.pack_jobs.specs.PackEnds.{place_of, MeaningEnds, KindEnds, JobEnds, PackEnds, IsPackKind, form_in, padding_in, settles_in, ends_in}
+use Rattle.pack_jobs.specs.PackEnds.{seen_as, place_of, MeaningEnds, KindEnds, JobEnds, PackEnds, IsPackKind, form_in, padding_in, settles_in, ends_in}
 
 wanted : (Lacks Untouched R : Type 0) → (Lacks → ⊥) → (Lacks ⊎ Untouched) ⊎ R → Untouched ⊎ R
 wanted Lacks Untouched R spared (inl (inl lacks)) = absurd (spared lacks)
@@ -54,20 +53,11 @@ ran_at m Settles Ends p q limit left left' old new ending same ran =
 
 -- memory ran out before the first read
 
-abbrev pub seen_as : Option (List ℕ) → ℕ → Option (List ℕ) → ℕ → ℕ → Outside
-seen_as left reads contents writes refusals = record {
-  left = left;
-  reads = reads;
-  contents = contents;
-  writes = writes;
-  refusals = refusals;
-}
-
 known : (left : Option (List ℕ)) (P : List ℕ → Type 0) → ((x : List ℕ) → P x) → IfSome left P
 known None P all = tt
 known (Some x) P all = all x
 
-unstarted_ends : {K : Type 0} → (m : Meaning (Shown Item) K Cut Refusal)
+pub unstarted_ends : {K : Type 0} → (m : Meaning (Shown Item) K Cut Refusal)
     (Settles : List ℕ → List (Shown Item) → Type 0) (Ends : List ℕ → List (Shown Item) → Option Cut → Type 0)
     (limit : ℕ) (left : Option (List ℕ)) (reads : ℕ) (contents : Option (List ℕ)) (writes refusals : ℕ)
     (Untouched : Type 0) → Untouched → Settles [] []
@@ -85,28 +75,28 @@ unstarted_ends m Settles Ends limit left reads contents writes refusals Untouche
   },
 )
 
-pub unstarted_kind : (kind : JobKind) → IsPackKind kind → (form : Form) (padding : Padding)
+pub unstarted_kind : (kind : JobKind) → IsPackKind kind → (job : Job)
     (Settles : List ℕ → List (Shown Item) → Type 0) (Ends : List ℕ → List (Shown Item) → Option Cut → Type 0)
     (limit : ℕ) (left : Option (List ℕ)) (reads : ℕ) (contents : Option (List ℕ)) (writes refusals : ℕ)
     (Untouched : Type 0) → Untouched → Settles [] []
-    → KindEnds kind form padding Settles Ends limit (seen_as left reads contents writes refusals)
+    → KindEnds kind job Settles Ends limit (seen_as left reads contents writes refusals)
     (seen_as left reads contents writes refusals) Untouched NoMemory
-unstarted_kind kinds.Norm is form padding = unstarted_ends (norm form padding)
-unstarted_kind kinds.Check is form padding = unstarted_ends (check form)
-unstarted_kind kinds.Show is form padding = absurd is
-unstarted_kind kinds.Merge is form padding = absurd is
-unstarted_kind kinds.Split is form padding = absurd is
-unstarted_kind kinds.Pad is form padding = absurd is
-unstarted_kind kinds.Apart is form padding = absurd is
-unstarted_kind kinds.Join is form padding = absurd is
-unstarted_kind kinds.Extract is form padding = absurd is
-unstarted_kind kinds.Head is form padding = absurd is
-unstarted_kind kinds.Send is form padding = absurd is
-unstarted_kind kinds.Recv is form padding = absurd is
-unstarted_kind kinds.Replay is form padding = absurd is
-unstarted_kind kinds.Sdp is form padding = absurd is
-unstarted_kind kinds.Make is form padding = absurd is
-unstarted_kind kinds.Trial is form padding = absurd is
+unstarted_kind kinds.Norm is job = unstarted_ends (norm (form_in job) (padding_in job))
+unstarted_kind kinds.Check is job = unstarted_ends (check (form_in job))
+unstarted_kind kinds.Show is job = absurd is
+unstarted_kind kinds.Merge is job = absurd is
+unstarted_kind kinds.Split is job = absurd is
+unstarted_kind kinds.Pad is job = absurd is
+unstarted_kind kinds.Apart is job = absurd is
+unstarted_kind kinds.Join is job = absurd is
+unstarted_kind kinds.Extract is job = absurd is
+unstarted_kind kinds.Head is job = absurd is
+unstarted_kind kinds.Send is job = absurd is
+unstarted_kind kinds.Recv is job = absurd is
+unstarted_kind kinds.Replay is job = absurd is
+unstarted_kind kinds.Sdp is job = absurd is
+unstarted_kind kinds.Make is job = absurd is
+unstarted_kind kinds.Trial is job = absurd is
 
 -- no bytes settle no records
 

@@ -1,5 +1,5 @@
 -- What norm keeps of records: two texts are one exactly where the records agree one by one.
-use Rattle.std.proofs.Common.{◌≡◌, ◌↔◌, ℕ, ◌+◌, ◌^◌, ◌<◌, ◌≤◌, List, [], ◌∷◌, ◌++◌, length, take, drop, map, flat_map, refl, sym, ap, ◌∙◌, subst, append_assoc, append-nil, length-append, take_at, arith}
+use Rattle.std.proofs.Common.{◌≡◌, ◌↔◌, ℕ, ◌^◌, ◌<◌, ◌≤◌, List, [], ◌∷◌, ◌++◌, length, take, drop, map, flat_map, refl, sym, ap, ◌∙◌, subst, append-nil, length-append, take_at, arith}
 use Rattle.std.specs.List.{AllByRecursion}
 use Rattle.std.proofs.Math.Seq.{take-append_seam, drop-append_seam}
 use Rattle.job_loop.specs.Shown.{Shown}
@@ -23,8 +23,8 @@ use Rattle.pack_records.specs.declared.item.Found.{Found}
 use Rattle.pack_records.specs.declared.item.Found.TheVariants.{Packet, Lost, Bad}
 use Rattle.pack_records.specs.declared.item.Item.{Item}
 use Rattle.pack_records.specs.Fits.{form_of, IsForm}
-use Rattle.pack_jobs.specs.declared.refusal.Refusal.{Refusal}
-use Rattle.pack_jobs.specs.Norm.{record_bytes, norm}
+use Rattle.pack_jobs.specs.Records.{record_bytes}
+use Rattle.pack_jobs.specs.Norm.{norm}
 use Rattle.pack_jobs.specs.Written.{payload_of, normal_record}
 use Rattle.pack_jobs.specs.SameRecords.{IsPacketIn, IsStored, IsLoneRecord, IsStoreRecord, IsAtMostOne, AreRecordsOf, IsSameFound, IsSameRecord, AgreeOneByOne}
 use Rattle.pack_jobs.proofs.FormSizes.{IsForm-some, IsForm-fits}

@@ -1,5 +1,5 @@
 -- The jobs, computed on small records.
-use Rattle.std.proofs.Common.{◌≡◌, ℕ, List, [], ◌∷◌, ◌++◌, false, true, codes, decimal, ap, ◌∙◌, refl, arith}
+use Rattle.std.proofs.Common.{◌≡◌, ℕ, List, [], ◌∷◌, ◌++◌, false, codes, decimal, ap, ◌∙◌, refl, arith}
 use Rattle.std.proofs.lemmas.Fmt.{decimal_digit}
 use Rattle.job_loop.specs.Shown.{Shown}
 use Rattle.job_loop.specs.Meaning.{going, broke, outcome}
@@ -10,7 +10,7 @@ use Rattle.opus_packet.specs.PacketFault.{fault}
 use Rattle.opus_feed.specs.declared.framing.Framing.TheVariants.{Whole}
 use Rattle.opus_feed.specs.declared.padding.Padding.TheVariants.{Drop, Keep}
 use Rattle.opus_words.specs.declared.form.Form.TheVariants.{Raw, Demo, SelfDelimited}
-use Rattle.pack_records.specs.declared.item.Found.TheVariants.{Packet, Lost, Bad}
+use Rattle.pack_records.specs.declared.item.Found.TheVariants.{Packet}
 use Rattle.pack_records.specs.declared.item.Item.{Item}
 use Rattle.pack_records.specs.Holds.{record_of, bad_record, lost_record}
 use Rattle.pack_jobs.specs.declared.refusal.Why.TheVariants.{Fault, PaddingLong, StoreCut}

@@ -5,7 +5,6 @@ use Rattle.job_loop.specs.Shown.{Shown}
 use Rattle.job_loop.specs.Meaning.{Meaning, Step, goes, stops}
 use Rattle.job_loop.specs.declared.input_end.InputEnd.{InputEnd}
 use Rattle.job_loop.specs.declared.input_end.InputEnd.TheVariants as ends
-use Rattle.opus_packet.specs.declared.fault.Fault.{Fault}
 use Rattle.opus_words.specs.declared.form.Form.{Form}
 use Rattle.opus_words.specs.declared.form.Form.TheVariants.{Raw, Demo, SelfDelimited}
 use Rattle.pack_records.specs.declared.cut.Cut.{Cut}

@@ -1,4 +1,5 @@
 pub mod Refusal
+pub mod Records
 pub mod Norm
 pub mod NormStands
 pub mod Check

@@ -1,30 +1,23 @@
 -- The job norm: each packet in its kept form, in the form of the input; ranges and lost records stay.
-use Rattle.std.specs.Prelude.{ℕ, ◌+◌, Bool, true, false, if◌then◌else◌, nat_lt, List, []}
+use Rattle.std.specs.Prelude.{ℕ, ◌+◌, Bool, false, if◌then◌else◌, nat_lt, []}
 use Rattle.job_loop.specs.Shown.{Shown}
 use Rattle.job_loop.specs.Meaning.{Meaning, Step, goes, stops}
 use Rattle.job_loop.specs.declared.input_end.InputEnd.{InputEnd}
 use Rattle.job_loop.specs.declared.input_end.InputEnd.TheVariants as ends
-use Rattle.rec_store.specs.DemoStore.{demo_record}
 use Rattle.opus_packet.specs.declared.shape.Shape.{Shape}
 use Rattle.opus_packet.specs.Header.{padding_data}
 use Rattle.opus_packet.specs.Tail.{max_tail}
 use Rattle.opus_feed.specs.declared.padding.Padding.{Padding}
 use Rattle.opus_feed.specs.declared.padding.Padding.TheVariants.{Drop, Keep}
 use Rattle.opus_words.specs.declared.form.Form.{Form}
-use Rattle.opus_words.specs.declared.form.Form.TheVariants.{Raw, Demo, SelfDelimited}
 use Rattle.pack_records.specs.declared.cut.Cut.{Cut}
 use Rattle.pack_records.specs.declared.item.Found.{Found}
 use Rattle.pack_records.specs.declared.item.Found.TheVariants.{Packet, Lost, Bad}
 use Rattle.pack_records.specs.declared.item.Item.{Item}
 use Rattle.pack_jobs.specs.declared.refusal.Why.TheVariants.{PaddingLong, StoreCut}
 use Rattle.pack_jobs.specs.declared.refusal.Refusal.{Refusal}
+use Rattle.pack_jobs.specs.Records.{record_bytes}
 use Rattle.pack_jobs.specs.Refusal.{told, refusal_of, refusal_at}
-
--- the bytes of a packet, or none, as a record of this form; only a store has a head, and a range
-abbrev pub record_bytes : Form → ℕ → List ℕ → List ℕ
-record_bytes Raw range bytes = bytes
-record_bytes Demo range bytes = demo_record range bytes
-record_bytes SelfDelimited range bytes = bytes
 
 -- padding bytes are to be kept, and the packet has more of them than are
 abbrev pub is_long : Padding → Shape → Bool

@@ -58,6 +58,16 @@ TellsEnding NoMemory endings.NoMemory = Unit {0}
 TellsEnding InputLimit endings.InputLimit = Unit {0}
 TellsEnding result ending = ⊥
 
+-- the outside of a run, by its parts
+abbrev pub seen_as : Option (List ℕ) → ℕ → Option (List ℕ) → ℕ → ℕ → Outside
+seen_as left reads contents writes refusals = record {
+  left = left;
+  reads = reads;
+  contents = contents;
+  writes = writes;
+  refusals = refusals;
+}
+
 -- where a record was decided
 abbrev pub place_of : Shown Item → ℕ
 place_of r = r.item.place
@@ -81,17 +91,17 @@ abbrev pub MeaningEnds : {K : Type 0} → Meaning (Shown Item) K Cut Refusal →
 MeaningEnds m Settles Ends limit before after Untouched result =
     (ending : loop.Ending Refusal) × TellsEnding result ending × RunEnds m Settles Ends limit before after Untouched ending
 
--- what the job of a kind means over records of a form: one line a job
-abbrev pub KindEnds : JobKind → Form → Padding → (List ℕ → List (Shown Item) → Type 0)
+-- what the job of a kind means over records of its form: one line a job
+abbrev pub KindEnds : JobKind → Job → (List ℕ → List (Shown Item) → Type 0)
     → (List ℕ → List (Shown Item) → Option Cut → Type 0) → ℕ → Outside → Outside → Type 0 → Ending → Type 0
-KindEnds Norm form padding = MeaningEnds (norm form padding)
-KindEnds Check form padding = MeaningEnds (check form)
-KindEnds kind form padding = λ Settles Ends limit before after Untouched result. ⊥
+KindEnds Norm job = MeaningEnds (norm (form_in job) (padding_in job))
+KindEnds Check job = MeaningEnds (check (form_in job))
+KindEnds kind job = λ Settles Ends limit before after Untouched result. ⊥
 
 -- the job ended as its meaning has it, where Settles and Ends say which records its input has
 abbrev pub JobEnds : Job → (List ℕ → List (Shown Item) → Type 0)
     → (List ℕ → List (Shown Item) → Option Cut → Type 0) → ℕ → Outside → Outside → Type 0 → Ending → Type 0
-JobEnds job = KindEnds job.kind (form_in job) (padding_in job)
+JobEnds job = KindEnds job.kind job
 
 -- the records that bytes of a form settle, and those of a whole input: one line a form
 abbrev pub settles_in : Form → Padding → List ℕ → List (Shown Item) → Type 0

@@ -14,7 +14,8 @@ use Rattle.pack_records.specs.declared.item.Item.{Item}
 use Rattle.pack_jobs.specs.declared.refusal.Why.TheVariants.{PaddingLong}
 use Rattle.pack_jobs.specs.declared.refusal.Refusal.{Refusal}
 use Rattle.pack_jobs.specs.Refusal.{told, refusal_of, refusal_at}
-use Rattle.pack_jobs.specs.Norm.{record_bytes, is_long}
+use Rattle.pack_jobs.specs.Records.{record_bytes}
+use Rattle.pack_jobs.specs.Norm.{is_long}
 use Rattle.pack_jobs.specs.Check.{check_line, found_text}
 
 -- the payload of the record that norm writes: what was lent of a packet, and nothing of a lost one

@@ -8,6 +8,7 @@ pub mod laws;
 mod line;
 mod norm;
 mod pack;
+mod record;
 mod refusal;
 #[cfg(test)]
 mod tests;

@@ -1,19 +1,16 @@
 //! The job norm: each packet in its kept form.
-ghost use Rattle.std.specs.Prelude.{◌≡◌, ◌^◌, ◌<◌, ℕ, length, OnOk, OnErr};
-ghost use Rattle.std.specs.Io.KnownBytes.{Appends};
-ghost use Rattle.opus_io.specs.Sink.{SinkCause, Onward};
-ghost use Rattle.job_loop.specs.Telling.{Front};
-ghost use Rattle.pack_jobs.specs.Norm.{norm, record_bytes, is_long};
+ghost use Rattle.std.specs.Prelude.{◌≡◌, ℕ};
+ghost use Rattle.pack_jobs.specs.Norm.{norm, is_long};
 ghost use Rattle.pack_jobs.specs.Refusal.{refusal_of};
 
+use crate::record::write_record;
 use crate::refusal::{Refusal, Why, refusal_at};
-use job_loop::{InputEnd, JobStop, Lent, RecordJob, write_both};
+use job_loop::{InputEnd, JobStop, Lent, RecordJob};
 use opus_feed::Padding;
-use opus_io::{Sink, SinkStop, write_all};
+use opus_io::Sink;
 use opus_packet::Shape;
 use opus_words::Form;
 use pack_records::{Cut, Found, Item};
-use rec_store::demo_head;
 
 // The padding of a packet whose padding bytes can be kept has at most so many bytes, with its length: 65,535 of them,
 // and 259 for the length.
@@ -108,24 +105,5 @@ impl RecordJob<Item, Cut> for Norm {
             InputEnd::Cut(cut) => Err(JobStop::Refused(self.refuse(cut.place, Why::StoreCut))),
             _ => Ok(()),
         }
-    }
-}
-
-// Writes the bytes of a packet, or none, as a record of this form.
-#[inline(always)]
-fn write_record<O: Sink>(form: Form, range: u32, bytes: &[u8], out: &mut O) -> Result<(), SinkStop>
-    requires { length bytes.now < 2 ^ 32 }
-    ensures ok { OnOk result (Appends (O.contents out.old) (O.contents out.new)
-        (record_bytes form range bytes.now)) }
-    ensures front { OnErr result (Front (record_bytes form range bytes.now)
-        (O.contents out.old) (O.contents out.new)) }
-    ensures cause { SinkCause (O.faults out.old) (O.faults out.new)
-        (O.refusals out.old) (O.refusals out.new) result }
-    ensures onward { Onward (O.onto out.old) (O.onto out.new) (O.handed out.old) (O.handed out.new) }
-{
-    match form {
-        Form::Demo => write_both(out, &demo_head(bytes.len() as u32, range), bytes),
-        Form::Raw => write_all(out, bytes),
-        Form::SelfDelimited => write_all(out, bytes),
     }
 }

@@ -1,6 +1,8 @@
 //! The jobs over packets, by their kinds and forms.
 ghost use Rattle.std.specs.Prelude.{◌≡◌, ◌^◌, ◌≤◌, [], IfOk};
-ghost use Rattle.pack_jobs.specs.PackEnds.{IsPackKind, IsPackJob, PackEnds, JobEnds, MeaningEnds, TellsEnding, place_of, form_in, padding_in};
+ghost use Rattle.job_loop.specs.Shown.{Shown};
+ghost use Rattle.job_loop.specs.Meaning.{Meaning};
+ghost use Rattle.pack_jobs.specs.PackEnds.{IsPackKind, IsPackJob, PackEnds, JobEnds, MeaningEnds, TellsEnding, seen_as, place_of, form_in, padding_in};
 
 use crate::check::Check;
 use crate::norm::Norm;
@@ -41,20 +43,8 @@ pub fn pack_job<S: Source, O: Sink>(
     requires most { limit ≤ 2 ^ 40 }
     requires job { IsPackJob job.now }
     ensures { PackEnds job.now limit
-        (record {
-          left = S.left source.old;
-          reads = S.faults source.old;
-          contents = O.contents out.old;
-          writes = O.faults out.old;
-          refusals = O.refusals out.old;
-        })
-        (record {
-          left = S.left source.new;
-          reads = S.faults source.new;
-          contents = O.contents out.new;
-          writes = O.faults out.new;
-          refusals = O.refusals out.new;
-        })
+        (seen_as (S.left source.old) (S.faults source.old) (O.contents out.old) (O.faults out.old) (O.refusals out.old))
+        (seen_as (S.left source.new) (S.faults source.new) (O.contents out.new) (O.faults out.new) (O.refusals out.new))
         (source.new ≡ source.old) result }
 {
     let padding = padding_in(job);
@@ -101,20 +91,8 @@ where
     requires place { F.place ≡ place_of }
     ensures { (layout : F.Layout) → IfOk records (λ f. F.layout f ≡ layout) → F.settles layout [] []
         → JobEnds job.now (F.settles layout) (F.ends layout) limit
-        (record {
-          left = S.left source.old;
-          reads = S.faults source.old;
-          contents = O.contents out.old;
-          writes = O.faults out.old;
-          refusals = O.refusals out.old;
-        })
-        (record {
-          left = S.left source.new;
-          reads = S.faults source.new;
-          contents = O.contents out.new;
-          writes = O.faults out.new;
-          refusals = O.refusals out.new;
-        })
+        (seen_as (S.left source.old) (S.faults source.old) (O.contents out.old) (O.faults out.old) (O.refusals out.old))
+        (seen_as (S.left source.new) (S.faults source.new) (O.contents out.new) (O.faults out.new) (O.refusals out.new))
         (source.new ≡ source.old) result }
 {
     match records {
@@ -142,20 +120,8 @@ where
     requires stands { F.stands records [] [] }
     requires place { F.place ≡ place_of }
     ensures { JobEnds job.now (F.settles (F.layout records)) (F.ends (F.layout records)) limit
-        (record {
-          left = S.left source.old;
-          reads = S.faults source.old;
-          contents = O.contents out.old;
-          writes = O.faults out.old;
-          refusals = O.refusals out.old;
-        })
-        (record {
-          left = S.left source.new;
-          reads = S.faults source.new;
-          contents = O.contents out.new;
-          writes = O.faults out.new;
-          refusals = O.refusals out.new;
-        })
+        (seen_as (S.left source.old) (S.faults source.old) (O.contents out.old) (O.faults out.old) (O.refusals out.old))
+        (seen_as (S.left source.new) (S.faults source.new) (O.contents out.new) (O.faults out.new) (O.refusals out.new))
         (source.new ≡ source.old) result }
 {
     let form = form_in(job);
@@ -193,23 +159,43 @@ where
     requires start { J.stands job.old (J.meaning job.old).start }
     requires spared { J.lacks job.old → ⊥ }
     ensures { MeaningEnds (J.meaning job.old) (F.settles (F.layout records)) (F.ends (F.layout records)) limit
-        (record {
-          left = S.left source.old;
-          reads = S.faults source.old;
-          contents = O.contents out.old;
-          writes = O.faults out.old;
-          refusals = O.refusals out.old;
-        })
-        (record {
-          left = S.left source.new;
-          reads = S.faults source.new;
-          contents = O.contents out.new;
-          writes = O.faults out.new;
-          refusals = O.refusals out.new;
-        })
+        (seen_as (S.left source.old) (S.faults source.old) (O.contents out.old) (O.faults out.old) (O.refusals out.old))
+        (seen_as (S.left source.new) (S.faults source.new) (O.contents out.new) (O.faults out.new) (O.refusals out.new))
         (source.new ≡ source.old) result }
 {
     ending_of(run_job(alloc, limit, records, job, source, out))
+}
+
+// Runs a job whose own memory was taken before, if there was some.
+fn run_made<F, J, S, O>(
+    alloc: Global,
+    limit: u64,
+    records: F,
+    made: Result<J, NoMemory>,
+    source: &mut S,
+    out: &mut O,
+) -> Ending
+where
+    F: RecordForm<Record = Item, Cut = Cut> + Drop,
+    J: RecordJob<Item, Cut, Refusal = Refusal> + Drop,
+    S: Source,
+    O: Sink,
+    requires some { 1 ≤ limit }
+    requires most { limit ≤ 2 ^ 40 }
+    requires stands { F.stands records [] [] }
+    requires place { F.place ≡ place_of }
+    requires start { IfOk made (λ j. J.stands j (J.meaning j).start) }
+    requires spared { IfOk made (λ j. J.lacks j → ⊥) }
+    ensures { (m : Meaning (Shown Item) J.Kept Cut Refusal) → IfOk made (λ j. J.meaning j ≡ m)
+        → MeaningEnds m (F.settles (F.layout records)) (F.ends (F.layout records)) limit
+        (seen_as (S.left source.old) (S.faults source.old) (O.contents out.old) (O.faults out.old) (O.refusals out.old))
+        (seen_as (S.left source.new) (S.faults source.new) (O.contents out.new) (O.faults out.new) (O.refusals out.new))
+        (source.new ≡ source.old) result }
+{
+    match made {
+        Ok(mut job) => run_ended(alloc, limit, records, &mut job, source, out),
+        Err(NoMemory) => Ending::NoMemory,
+    }
 }
 
 // The program's ending, with the text of a refusal.

@@ -1,11 +1,10 @@
 use Rattle.std.proofs.Common.{◌≡◌, refl}
-use Rattle.pack_jobs.specs.PackEnds.{form_in, padding_in}
 use Rattle.pack_jobs.proofs.PackLemmas.{unstarted_kind}
 use Rattle.pack_jobs.proofs.pack.run_form.Goals as goal
 
 pub returns-in-Err : goal.returns-in-Err
 returns-in-Err g c = λ layout is settled.
-    unstarted_kind c.args.job.now.kind c.requires.kind (form_in c.args.job.now) (padding_in c.args.job.now)
+    unstarted_kind c.args.job.now.kind c.requires.kind c.args.job.now
     (g.F.Form.settles layout) (g.F.Form.ends layout) c.args.limit (g.S.Source.left c.args.source.now)
     (g.S.Source.faults c.args.source.now) (g.O.Sink.contents c.args.out.now) (g.O.Sink.faults c.args.out.now)
     (g.O.Sink.refusals c.args.out.now) (c.args.source.now ≡ c.args.source.now) refl settled

@@ -1,4 +1,4 @@
-use Rattle.std.proofs.Common.{length, ap, sym, ◌∙◌, subst, ◌<◌, ◌^◌}
+use Rattle.std.proofs.Common.{length, sym, subst, ◌<◌, ◌^◌}
 use Rattle.pack_jobs.proofs.FormSizes.{found_fits}
 use Rattle.pack_jobs.proofs.norm.NormRecordJobItemCut.take.Goals as goal
 
