@@ -2,7 +2,7 @@
 use Rattle.std.proofs.Common.{ℕ, List, [], ◌++◌, refl, ◌∙◌}
 use Rattle.std.specs.declared.option.Option.{Option}
 use Rattle.std.proofs.KnownBytes.{Appends-nil, Appends-trans}
-use Rattle.opus_io.specs.Sink.{Grew, Onward}
+use Rattle.opus_io.specs.Sink.{Onward}
 
 -- nothing was written
 pub Onward-still : (n : ℕ) (a : Option (List ℕ)) → Onward n n a a

@@ -1,5 +1,5 @@
 -- The definitions, computed on small counts and lists.
-use Rattle.std.proofs.Common.{◌≡◌, ℕ, ◌-◌, ◌^◌, ◌≤◌, true, false, List, [], ◌∷◌, None, Some, refl, arith}
+use Rattle.std.proofs.Common.{◌≡◌, ◌-◌, ◌^◌, true, false, [], ◌∷◌, Some, refl, arith}
 use Rattle.opus_io.specs.Cause.{Rose, RoseWhere}
 use Rattle.opus_io.specs.Sink.{Grew}
 use Rattle.opus_io.specs.Reader.{coming}

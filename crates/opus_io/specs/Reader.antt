@@ -18,6 +18,10 @@ pub record ReaderState : Type 0 where
 abbrev pub coming : ReaderState → Option (List ℕ) → Option (List ℕ)
 coming k left = prepend_known k.bytes left
 
+-- most bytes of an input: this project's limit
+abbrev pub max_input : ℕ
+max_input = 2 ^ 40
+
 -- what every reader's fields meet: the bytes passed last and those kept lie in the buffer, and at most one is
 -- past the limit
 pub record Fits (room start end last passed limit : ℕ) : Type 0 where
@@ -27,7 +31,7 @@ pub record Fits (room start end last passed limit : ℕ) : Type 0 where
   pub in_buffer : end ≤ 4096
   pub in_limit : passed ≤ limit
   pub one_past : passed + (end - start) ≤ limit + 1
-  pub most : limit ≤ 2 ^ 40
+  pub most : limit ≤ max_input
 
 -- a look ahead passes nothing, loses nothing, and leaves kept bytes alone
 pub record Stays (old new : ReaderState) (left left' : Option (List ℕ)) : Type 0 where

@@ -1,5 +1,5 @@
 -- What a write does to a sink's two counts: its faults and its refused growths.
-use Rattle.std.specs.Prelude.{◌≡◌, ℕ, ◌≤◌, List, Option, None, Some, Result, OnOk, IsErrOf}
+use Rattle.std.specs.Prelude.{◌≡◌, ℕ, ◌≤◌, List, Option, Result, OnOk, IsErrOf}
 use Rattle.std.specs.Io.KnownBytes.{Appends}
 use Rattle.opus_io.specs.Cause.{Rose}
 use Rattle.opus_io.specs.declared.sink.SinkStop.{SinkStop}

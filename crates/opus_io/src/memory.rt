@@ -1,7 +1,8 @@
 //! A source and a sink in memory that fail where they were asked to.
-ghost use Rattle.std.specs.Prelude.{◌≡◌, ◌↔◌, ◌+◌, ◌-◌, ◌^◌, ◌≤◌, ◌<◌, ℕ, List, [], ◌++◌, Some, IfOk, OnOk, OnErr, IsErr, IsErrOf, IsTrue, Contains, min, take, drop, length, vec_len};
+ghost use Rattle.std.specs.Prelude.{◌≡◌, ◌↔◌, ◌≤◌, ◌<◌, ℕ, List, [], ◌++◌, Some, IfOk, OnOk, OnErr, IsErr, IsErrOf, IsTrue, Contains, take, drop, length, vec_len};
 ghost use Rattle.std.specs.Io.{ReadsAtMost, WritesAtMost};
 ghost use Rattle.std.specs.Io.KnownBytes.{ReadConsumes, WriteAppends};
+ghost use Rattle.opus_io.specs.Cause.{next_count};
 ghost use Rattle.opus_io.specs.Source.{SourceCause};
 ghost use Rattle.opus_io.specs.Sink.{SinkCause};
 ghost use Rattle.opus_io.specs.Memory.{SourceState, SinkState};
@@ -71,9 +72,9 @@ impl Source for MemorySource {
         ensures bytes { ReadConsumes (Some self.old.left) (Some self.new.left) result buf.new }
         ensures cause { SourceCause self.old.faults self.new.faults result }
         ensures step { IfOk result (λ n. n ≤ self.old.step) }
-        ensures call { self.new.calls ≡ min (self.old.calls + 1) (2 ^ 64 - 1) }
+        ensures call { self.new.calls ≡ next_count self.old.calls }
         ensures fails { IsErr result ↔ Contains self.old.fails self.new.calls }
-        ensures counted { OnErr result (self.new.faults ≡ min (self.old.faults + 1) (2 ^ 64 - 1)) }
+        ensures counted { OnErr result (self.new.faults ≡ next_count self.old.faults) }
         ensures same_step { self.new.step ≡ self.old.step }
         ensures same_fails { self.new.fails ≡ self.old.fails }
     {
@@ -155,14 +156,14 @@ impl Sink for MemorySink {
         ensures cause { SinkCause self.old.faults self.new.faults
             self.old.refusals self.new.refusals result }
         ensures step { IfOk result (λ n. n ≤ self.old.step) }
-        ensures call { self.new.calls ≡ min (self.old.calls + 1) (2 ^ 64 - 1) }
+        ensures call { self.new.calls ≡ next_count self.old.calls }
         ensures fails { IsErrOf result SinkStop.Failed ↔ Contains self.old.fails self.new.calls }
         ensures counted { IsErrOf result SinkStop.Failed
-            → self.new.faults ≡ min (self.old.faults + 1) (2 ^ 64 - 1) }
+            → self.new.faults ≡ next_count self.old.faults }
         ensures grown { OnOk result (self.new.refusals ≡ self.old.refusals) }
         ensures not_tried { IsErrOf result SinkStop.Failed → self.new.refusals ≡ self.old.refusals }
         ensures refused { IsErrOf result SinkStop.NoMemory
-            → self.new.refusals ≡ min (self.old.refusals + 1) (2 ^ 64 - 1) }
+            → self.new.refusals ≡ next_count self.old.refusals }
         ensures same_step { self.new.step ≡ self.old.step }
         ensures same_fails { self.new.fails ≡ self.old.fails }
     {

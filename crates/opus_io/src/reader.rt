@@ -1,10 +1,10 @@
 //! The reader: a source up to a limit, 4,096 bytes at a time.
-ghost use Rattle.std.specs.Prelude.{◌≡◌, ◌≢◌, ◌+◌, ◌-◌, ◌^◌, ◌≤◌, ◌<◌, ℕ, [], IfOk, OnOk, OnErr, IsErrOf, true, false, min, length, slice_range, vec_len, take, drop};
+ghost use Rattle.std.specs.Prelude.{◌≡◌, ◌≢◌, ◌+◌, ◌-◌, ◌≤◌, ◌<◌, ℕ, [], IfOk, OnOk, OnErr, IsErrOf, true, false, min, length, slice_range, vec_len, take, drop};
 ghost use Rattle.std.specs.Io.KnownBytes.{ReadConsumes};
 ghost use Rattle.std.specs.Io.BufRead.{Rests};
 ghost use Rattle.std.specs.Borrow.{sem};
 ghost use Rattle.opus_io.specs.Source.{SourceCause};
-ghost use Rattle.opus_io.specs.Reader.{ReaderState, Fits, Filled, Looked, LookCause};
+ghost use Rattle.opus_io.specs.Reader.{ReaderState, max_input, Fits, Filled, Looked, LookCause};
 
 use crate::{Failed, NoMemory, Source};
 use std::alloc::Global;
@@ -56,7 +56,7 @@ impl Reader {
     /// A reader that has taken nothing. `limit` is in bytes, at most 2^40.
     pub fn new(alloc: Global, limit: u64) -> Result<Reader, NoMemory>
         requires some { 1 ≤ limit }
-        requires most { limit ≤ 2 ^ 40 }
+        requires most { limit ≤ max_input }
         ensures bytes { IfOk result (λ r. r.bytes ≡ []) }
         ensures passed { IfOk result (λ r. r.passed ≡ 0) }
         ensures limit { IfOk result (λ r. r.limit ≡ limit) }
@@ -122,7 +122,7 @@ impl Reader {
     /// The bytes that come next and were taken and not passed, up to the limit. It never reads.
     pub fn shown(&self) -> &[u8]
         ensures value { result.now ≡ take (self.now.limit - self.now.passed) self.now.bytes }
-        ensures most { self.now.passed + length result.now ≤ 2 ^ 40 }
+        ensures most { self.now.passed + length result.now ≤ max_input }
         ensures in_limit { self.now.passed + length result.now ≤ self.now.limit }
         ensures kept { length result.now ≤ length self.now.bytes }
     {

@@ -1,5 +1,6 @@
 //! Which calls of a source or sink in memory are to fail.
-ghost use Rattle.std.specs.Prelude.{◌≡◌, ◌↔◌, ◌+◌, ◌-◌, ◌^◌, IfOk, IsTrue, Contains, min, if◌then◌else◌};
+ghost use Rattle.std.specs.Prelude.{◌≡◌, ◌↔◌, IfOk, IsTrue, Contains, if◌then◌else◌};
+ghost use Rattle.opus_io.specs.Cause.{next_count};
 
 use crate::NoMemory;
 use std::alloc::Global;
@@ -28,10 +29,10 @@ impl Script {
     // Counts one more call, and tells whether it is to fail.
     pub fn fails_now(&mut self) -> bool
         ensures fails { self.new.fails.items ≡ self.old.fails.items }
-        ensures calls { self.new.calls ≡ min (self.old.calls + 1) (2 ^ 64 - 1) }
+        ensures calls { self.new.calls ≡ next_count self.old.calls }
         ensures result { IsTrue result ↔ Contains self.old.fails.items self.new.calls }
         ensures faults { self.new.faults
-            ≡ (if result then min (self.old.faults + 1) (2 ^ 64 - 1) else self.old.faults) }
+            ≡ (if result then next_count self.old.faults else self.old.faults) }
     {
         self.calls = self.calls.saturating_add(1);
         let is_listed = self.fails.contains(&self.calls);

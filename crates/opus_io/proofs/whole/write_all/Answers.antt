@@ -2,7 +2,7 @@ use Rattle.std.proofs.Common.{length-drop, arith, ◌∙◌}
 use Rattle.std.proofs.Math.Seq.{take-add}
 use Rattle.std.proofs.lemmas.List.{take_rest}
 use Rattle.std.proofs.KnownBytes.{Appends-trans}
-use Rattle.opus_io.proofs.Onward.{Onward-still, Onward-trans}
+use Rattle.opus_io.proofs.Onward.{Onward-trans}
 use Rattle.opus_io.proofs.whole.write_all.Goals as goal
 
 pub loop-at-preserved : goal.loop-at-preserved
