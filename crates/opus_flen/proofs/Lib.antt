@@ -1,3 +1,5 @@
 pub mod LengthLemmas
 pub mod PaddingLemmas
+pub mod PaddingReadLemmas
+pub mod PaddingFrontLemmas
 pub mod StandardFacts

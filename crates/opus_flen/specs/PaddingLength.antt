@@ -3,10 +3,14 @@ use Rattle.std.specs.Prelude.{◌≡◌, ℕ, ◌+◌, ◌-◌, ◌*◌, ◌/◌
 use Rattle.opus_flen.specs.declared.padding_length.PadRead.{PadRead}
 use Rattle.opus_flen.specs.declared.padding_length.PadRead.TheVariants.{Pad, Cut, Limit}
 
+-- padding totals are below it: this project's limit
+abbrev pub padding_limit : ℕ
+padding_limit = 2 ^ 24
+
 -- The bytes spell the padding total: full bytes 255, each for 254 padding bytes and the byte itself, and a
--- last byte below 255 for that many padding bytes and itself. The limit on the total is this project's.
+-- last byte below 255 for that many padding bytes and itself.
 pub record SpellsPaddingBy (total : ℕ) (bytes : List ℕ) (full last : ℕ) : Type 0 where
-  pub fits : total < 2 ^ 24
+  pub fits : total < padding_limit
   pub below : last ≤ 254
   pub total_is : total ≡ 255 * full + last + 1
   pub bytes_are : bytes ≡ replicate full 255 ++ last ∷ []

@@ -1,7 +1,7 @@
 //! Laws of the lengths: each is the contract of a function that does nothing.
-ghost use Rattle.std.specs.Prelude.{◌≡◌, ℕ, ◌^◌, ◌<◌, ◌≤◌, ◌↔◌, List, ◌++◌, length, take};
+ghost use Rattle.std.specs.Prelude.{◌≡◌, ℕ, ◌<◌, ◌≤◌, ◌↔◌, List, ◌++◌, length, take};
 ghost use Rattle.opus_flen.specs.FrameLength.{BeginsWithLength, length_bytes, length_read};
-ghost use Rattle.opus_flen.specs.PaddingLength.{SpellsPadding, padding_bytes, padding_read};
+ghost use Rattle.opus_flen.specs.PaddingLength.{padding_limit, SpellsPadding, padding_bytes, padding_read};
 ghost use Rattle.opus_flen.specs.declared.frame_length.LenRead.TheVariants.{Len};
 ghost use Rattle.opus_flen.specs.declared.padding_length.PadRead.TheVariants.{Pad};
 
@@ -17,6 +17,6 @@ pub fn a_frame_length_is_read_in_one_way()
 pub fn a_padding_length_is_read_in_one_way()
     ensures read { (bytes : List ℕ) (total used : ℕ) → SpellsPadding total (take used bytes)
         → used ≤ length bytes → padding_read bytes ≡ Pad total used }
-    ensures one { (total : ℕ) (bytes : List ℕ) → 1 ≤ total → total < 2 ^ 24
+    ensures one { (total : ℕ) (bytes : List ℕ) → 1 ≤ total → total < padding_limit
         → SpellsPadding total bytes ↔ (bytes ≡ padding_bytes total) }
 {}

@@ -1,6 +1,6 @@
 //! Padding lengths of code 3 packets (RFC 6716, 3.2.5).
-ghost use Rattle.std.specs.Prelude.{◌≡◌, ◌+◌, ◌-◌, ◌*◌, ◌^◌, ◌<◌, ◌≤◌, ◌++◌, length, vec_len, vec_capacity, OnOk, OnErr};
-ghost use Rattle.opus_flen.specs.PaddingLength.{ReadsPadding, padding_read, padding_bytes};
+ghost use Rattle.std.specs.Prelude.{◌≡◌, ◌+◌, ◌-◌, ◌*◌, ◌<◌, ◌≤◌, ◌++◌, length, vec_len, vec_capacity, OnOk, OnErr};
+ghost use Rattle.opus_flen.specs.PaddingLength.{padding_limit, ReadsPadding, padding_read, padding_bytes};
 
 use opus_io::NoMemory;
 
@@ -59,7 +59,7 @@ pub struct PadParts {
 /// The parts of a padding total, which counts padding bytes and length bytes together.
 pub fn pad_parts(total: u32) -> PadParts
     requires at_least_one { 1 ≤ total }
-    requires within_limit { total < 2 ^ 24 }
+    requires within_limit { total < padding_limit }
     ensures total { total ≡ 255 * result.full + result.last + 1 }
     ensures last { result.last ≤ 254 }
     ensures data { result.data_bytes ≡ total - result.full - 1 }
@@ -75,7 +75,7 @@ pub fn pad_parts(total: u32) -> PadParts
 /// Appends the length bytes of a padding total, and no padding bytes.
 pub fn write_pad(total: u32, out: &mut Vec<u8>) -> Result<(), NoMemory>
     requires at_least_one { 1 ≤ total }
-    requires within_limit { total < 2 ^ 24 }
+    requires within_limit { total < padding_limit }
     ensures ok { OnOk result (out.new.items ≡ out.old.items ++ padding_bytes total) }
     ensures err { OnErr result (out.new.items ≡ out.old.items) }
     ensures full { OnErr result

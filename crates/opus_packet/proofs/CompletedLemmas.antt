@@ -5,7 +5,8 @@ use Rattle.opus_toc.specs.Toc.{config_of, code_of}
 use Rattle.opus_flen.specs.FrameLength.{length_bytes}
 use Rattle.opus_flen.specs.PaddingLength.{padding_bytes, padding_read}
 use Rattle.opus_flen.specs.declared.padding_length.PadRead.TheVariants.{Pad, Cut}
-use Rattle.opus_flen.proofs.PaddingLemmas.{padding_read-sound, padding_read-split, padding_read-completed}
+use Rattle.opus_flen.proofs.PaddingFrontLemmas.{padding_read-split, padding_read-completed}
+use Rattle.opus_flen.proofs.PaddingReadLemmas.{padding_read-sound}
 use Rattle.opus_packet.specs.Header.{Header, Sizes, equal, given, frame_count, given_lengths, padding_length, header_bytes}
 use Rattle.opus_packet.specs.HeaderRead.{HeaderRead, whole, partial, refused, lengths_read, shape_of, header_of, vbr_of, padded_of, frames_of, is_count, header_read}
 use Rattle.opus_packet.specs.PacketPrefix.{AreBytes}

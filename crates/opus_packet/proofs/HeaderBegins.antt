@@ -6,7 +6,8 @@ use Rattle.opus_toc.specs.Configuration.{samples_of}
 use Rattle.opus_toc.proofs.Table.{samples-least, samples-most}
 use Rattle.opus_flen.specs.FrameLength.{length_bytes}
 use Rattle.opus_flen.specs.PaddingLength.{padding_bytes}
-use Rattle.opus_flen.proofs.PaddingLemmas.{padding_read-sound, padding_read-split}
+use Rattle.opus_flen.proofs.PaddingFrontLemmas.{padding_read-split}
+use Rattle.opus_flen.proofs.PaddingReadLemmas.{padding_read-sound}
 use Rattle.opus_packet.specs.declared.shape.Shape.{Shape}
 use Rattle.opus_packet.specs.Value.{max_duration}
 use Rattle.opus_packet.specs.Header.{Header, Sizes, equal, given, frame_count, given_lengths, count_byte, padding_length, count_and_padding, header_bytes}

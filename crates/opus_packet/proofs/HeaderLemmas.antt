@@ -3,7 +3,7 @@ use Rattle.std.proofs.Common.{◌≡◌, ℕ, suc, ◌+◌, ◌<◌, true, false
 use Rattle.opus_toc.specs.Toc.{code_of}
 use Rattle.opus_flen.specs.PaddingLength.{padding_read}
 use Rattle.opus_flen.specs.declared.padding_length.PadRead.TheVariants.{Limit}
-use Rattle.opus_flen.proofs.PaddingLemmas.{padding_read-limit_more, padding_read-limit_place}
+use Rattle.opus_flen.proofs.PaddingFrontLemmas.{padding_read-limit_more, padding_read-limit_place}
 use Rattle.opus_packet.specs.declared.fault.Rule.{Rule}
 use Rattle.opus_packet.specs.declared.fault.Rule.TheVariants.{R5, PadLimit}
 use Rattle.opus_packet.specs.HeaderRead.{HeaderRead, whole, partial, refused, padded_of, is_count, header_read}

@@ -6,7 +6,7 @@ use Rattle.opus_toc.specs.Configuration.{samples_of}
 use Rattle.opus_toc.proofs.TocLemmas.{config_of-toc_byte, stereo_of-toc_byte, code_of-toc_byte}
 use Rattle.opus_flen.specs.FrameLength.{length_bytes}
 use Rattle.opus_flen.specs.PaddingLength.{padding_bytes}
-use Rattle.opus_flen.proofs.PaddingLemmas.{padding_read-spelled}
+use Rattle.opus_flen.proofs.PaddingReadLemmas.{padding_read-spelled}
 use Rattle.opus_packet.specs.Value.{max_duration}
 use Rattle.opus_packet.specs.Header.{Header, Sizes, equal, given, frame_count, given_lengths, count_byte, padding_length, count_and_padding, header_bytes}
 use Rattle.opus_packet.specs.HeaderRead.{HeaderRead, whole, lengths_read, shape_of, header_of, vbr_of, padded_of, frames_of, is_count, header_read}

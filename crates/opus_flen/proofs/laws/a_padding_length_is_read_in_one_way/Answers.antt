@@ -1,4 +1,5 @@
-use Rattle.opus_flen.proofs.PaddingLemmas.{padding_read-found, SpellsPadding-is, SpellsPadding-from}
+use Rattle.opus_flen.proofs.PaddingLemmas.{SpellsPadding-is, SpellsPadding-from}
+use Rattle.opus_flen.proofs.PaddingReadLemmas.{padding_read-found}
 use Rattle.opus_flen.proofs.laws.a_padding_length_is_read_in_one_way.Goals as goal
 
 pub returns-clause-read : goal.returns-clause-read

@@ -1,7 +1,8 @@
 use Rattle.std.proofs.Common.{◌≡◌, ◌+◌, ◌*◌, ◌<◌, get_or, sym, arith}
 use Rattle.opus_flen.specs.PaddingLength.{padding_read}
 use Rattle.opus_flen.specs.declared.padding_length.PadRead.TheVariants.{Pad, Cut}
-use Rattle.opus_flen.proofs.PaddingLemmas.{most_full-is, full_bytes-le, full_bytes-step, padding_read-at_last, padding_read-cut, padding_read-from_limit, padding_read-reads, IsLimit}
+use Rattle.opus_flen.proofs.PaddingLemmas.{most_full-is, full_bytes-le, full_bytes-step, padding_read-cut}
+use Rattle.opus_flen.proofs.PaddingReadLemmas.{padding_read-at_last, padding_read-from_limit, padding_read-reads, IsLimit}
 use Rattle.opus_flen.proofs.padding_length.read_pad.Goals as goal
 
 at_last : (c : goal.After-from)
