@@ -1,5 +1,7 @@
 -- Frames of given lengths, cut off one after another.
-use Rattle.std.proofs.Common.{◌≡◌, ℕ, zero, suc, ◌-◌, ◌≤◌, List, [], ◌∷◌, ◌++◌, length, get_or, take, drop, replicate, flat_map, All, refl, sym, ap, ◌∙◌, subst, true, ◌==◌, eq-eqb, arith, length-take, length-take-le, length-drop, length-append, Bor, drop_at, sum, ◌*◌}
+use Rattle.std.proofs.Common.{◌≡◌, ℕ, zero, suc, ◌-◌, ◌≤◌, List, [], ◌∷◌, ◌++◌, length, get_or, take, drop, replicate, flat_map, All, refl, sym, ap, ◌∙◌, subst, true, ◌==◌, eq-eqb, arith, length-take, length-take-le, length-drop, length-append, drop_at, sum, ◌*◌, IfSome}
+use Rattle.std.proofs.lemmas.List.{length_push}
+use Rattle.std.proofs.Math.Seq.{take-append_seam}
 use Rattle.std.proofs.lemmas.List.Sums.{sum_by-cons}
 use Rattle.opus_packet.proofs.CutLemmas.{length-cut}
 use Rattle.std.specs.List.{AllByRecursion, list_all}
@@ -14,7 +16,7 @@ use Rattle.opus_flen.specs.declared.frame_length.LenRead.TheVariants.{Len, Cut}
 use Rattle.opus_flen.proofs.LengthLemmas.{length_read-spelled, length-length_bytes}
 use Rattle.opus_packet.specs.declared.lens.Before as declared
 use Rattle.opus_packet.specs.declared.lens.Before.TheVariants.{Equal, Spelled, Listed}
-use Rattle.opus_packet.specs.Lens.{lens_by, IsBefore}
+use Rattle.opus_packet.specs.Lens.{lens_by, spelling_of, IsBefore}
 use Rattle.opus_packet.specs.Spelled.{lengths_in, SpellsLengths, SplitsTo}
 use Rattle.opus_packet.proofs.SpelledLemmas.{spells-lengths, SpellsLengths-from}
 
@@ -129,11 +131,26 @@ spelled_most [] = omega arith
 spelled_most (n ∷ ns) =
     omega (arith, length-append (length_bytes n) (flat_map length_bytes ns), (length-length_bytes n).1, spelled_most ns)
 
-pub before-short : (b : declared.Before) (last count : ℕ) (bytes : Bor (List ℕ)) → b ≡ Spelled bytes
-    → IsBefore b last count → count ≤ 48 → length bytes.now ≤ 94
-before-short b last zero bytes is before few =
-    let spells : bytes.now ≡ [] = subst (λ e. IsBefore e last zero) is before in
-    omega (arith, ap length spells)
-before-short b last (suc count) bytes is before few =
-    let spells : SpellsLengths count bytes.now = subst (λ e. IsBefore e last (suc count)) is before in
-    omega (arith, ap length spells.own, spelled_most (lengths_in count bytes.now), spells.counted)
+pub spelling-short : (b : declared.Before) (last count : ℕ) → IsBefore b last count → count ≤ 48
+    → IfSome (spelling_of b) (λ bytes. length bytes.now ≤ 94)
+spelling-short Equal last count before few = tt
+spelling-short (Spelled bytes) last zero before few = omega (arith, ap length before)
+spelling-short (Spelled bytes) last (suc count) before few =
+    omega (arith, ap length before.own, spelled_most (lengths_in count bytes.now), before.counted)
+spelling-short (Listed lens) last count before few = tt
+
+-- bytes in which lengths lie spelled are the spelling of all but the last
+
+take-push : (ns : List ℕ) (n : ℕ) → take (length (ns ++ n ∷ []) - 1) (ns ++ n ∷ []) ≡ ns
+take-push ns n =
+    let behind : length (ns ++ n ∷ []) - 1 ≡ length ns = omega (arith, length_push ns n) in
+    ap (λ k. take k (ns ++ n ∷ [])) behind ∙ take-append_seam ns (n ∷ [])
+
+pub spelling-own : (b : declared.Before) (last count : ℕ) → IsBefore b last count
+    → 1 ≤ length (lens_by b last count)
+    → IfSome (spelling_of b) (λ bytes. bytes.now ≡ flat_map length_bytes (take (length (lens_by b last count) - 1) (lens_by b last count)))
+spelling-own Equal last count before some = tt
+spelling-own (Spelled bytes) last zero before some = absurd (omega arith)
+spelling-own (Spelled bytes) last (suc count) before some =
+    before.own ∙ ap (λ ns. flat_map length_bytes ns) (sym (take-push (lengths_in count bytes.now) last))
+spelling-own (Listed lens) last count before some = tt

@@ -5,6 +5,10 @@ use Rattle.opus_flen.specs.FrameLength.{length_bytes}
 use Rattle.opus_flen.specs.PaddingLength.{padding_bytes}
 use Rattle.opus_packet.specs.declared.shape.Shape.{Shape}
 
+-- most bytes of a header: the TOC byte, the count byte, 65,793 of a padding length, and 94 of 47 lengths
+abbrev pub max_header : ℕ
+max_header = 65889
+
 -- what a header says of the frames' lengths: so many of one length; or the lengths of all frames but the last
 pub data Sizes : Type 0 where
   equal : ℕ → Sizes

@@ -1,5 +1,6 @@
 -- What reading a header gives.
-use Rattle.std.specs.Prelude.{◌≡◌, ℕ, ◌+◌, ◌*◌, ◌<◌, ◌≤◌, ◌^◌, List, length, take, drop, Option, Some, None}
+use Rattle.std.specs.Prelude.{◌≡◌, ℕ, ◌+◌, ◌*◌, ◌<◌, ◌≤◌, List, length, take, drop, Option, Some, None}
+use Rattle.opus_flen.specs.PaddingLength.{padding_limit}
 use Rattle.opus_toc.specs.Toc.{config_of, stereo_of, code_of}
 use Rattle.opus_toc.specs.Configuration.{samples_of}
 use Rattle.opus_packet.specs.declared.shape.Shape.{Shape}
@@ -11,7 +12,7 @@ use Rattle.opus_packet.specs.declared.header.HeaderRead.TheVariants.{Whole, Part
 use Rattle.opus_packet.specs.Value.{max_frame, max_duration, PacketValue}
 use Rattle.opus_packet.specs.Cut.{cut}
 use Rattle.opus_packet.specs.Spelled.{lengths_of, AreGiven}
-use Rattle.opus_packet.specs.Header.{Header, Sizes, equal, given, header_bytes, body_size, padding_data, frame_count, frame_lengths}
+use Rattle.opus_packet.specs.Header.{max_header, Header, Sizes, equal, given, header_bytes, body_size, padding_data, frame_count, frame_lengths}
 use Rattle.opus_packet.specs.HeaderRead.{HeaderRead, whole, partial, refused}
 
 -- the sizes as plain numbers
@@ -48,16 +49,16 @@ pub record IsMade (first : ℕ) (shape : Shape) (sizes : declared_sizes.Sizes) (
   pub sizes_are : h.sizes ≡ sizes
   pub used_is : h.used ≡ used
   pub tail_is : h.tail ≡ padding_data shape.pad
-  pub tail_small : h.tail < 2 ^ 24
+  pub tail_small : h.tail < padding_limit
 
 -- the header stands at the front of so many bytes, of which the first say this
 pub record HeaderStands (h : declared_header.Header) (size : ℕ) (said : HeaderRead) : Type 0 where
   pub said_is : said ≡ whole (header_value h)
   pub used_is : h.used ≡ length (header_bytes (header_value h))
   pub within : h.used ≤ size
-  pub small : h.used ≤ 65889
+  pub small : h.used ≤ max_header
   pub tail_is : h.tail ≡ padding_data h.shape.pad
-  pub tail_small : h.tail < 2 ^ 24
+  pub tail_small : h.tail < padding_limit
   pub code : h.toc.code ≡ h.shape.code
   pub sized : AreSized h.sizes
   pub lasts : frame_count (sizes_value h.sizes) * samples_of h.toc.config ≤ max_duration

@@ -1,5 +1,6 @@
 -- The lengths of a packet's frames, kept where they are: as one number, as they are spelled, or as a list.
-use Rattle.std.specs.Prelude.{◌≡◌, ℕ, zero, suc, ◌≤◌, List, [], ◌∷◌, ◌++◌, length, replicate, All}
+use Rattle.std.specs.Prelude.{◌≡◌, ℕ, zero, suc, ◌≤◌, List, [], ◌∷◌, ◌++◌, length, replicate, All, Option, Some, None}
+use denote.Ref.{Bor}
 use Rattle.opus_packet.specs.declared.lens.Before as declared
 use Rattle.opus_packet.specs.declared.lens.Before.TheVariants.{Equal, Spelled, Listed}
 use Rattle.opus_packet.specs.declared.lens.Lens.TheInside.{Inside}
@@ -17,6 +18,12 @@ lens_by (Listed lens) last count = lens.now
 -- the lengths that a `Lens` stands for
 abbrev pub lens_inside : Inside → List ℕ
 lens_inside l = lens_by l.before l.last l.count
+
+-- the bytes that spell those before the last, where they lie spelled
+abbrev pub spelling_of : declared.Before → Option (Bor (List ℕ))
+spelling_of Equal = None
+spelling_of (Spelled bytes) = Some bytes
+spelling_of (Listed lens) = None
 
 -- what is kept of those before the last is so many lengths
 abbrev pub IsBefore : declared.Before → ℕ → ℕ → Type 0

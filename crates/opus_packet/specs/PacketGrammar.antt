@@ -1,24 +1,28 @@
 -- Undelimited packets (RFC 6716, 3.2, with the rules of 3.4).
-use Rattle.std.specs.Prelude.{◌≡◌, ℕ, zero, suc, ◌-◌, ◌^◌, ◌<◌, Bool, false, ◌||◌, ◌==◌, if◌then◌else◌, List, ◌++◌, length, take, map}
+use Rattle.std.specs.Prelude.{◌≡◌, ℕ, zero, suc, ◌-◌, ◌<◌, Bool, false, ◌||◌, ◌==◌, if◌then◌else◌, List, ◌++◌, length, take, map}
 use Rattle.std.specs.List.{AllByRecursion, concat}
+use Rattle.opus_flen.specs.PaddingLength.{padding_limit}
 use Rattle.opus_packet.specs.declared.shape.Shape.{Shape}
 use Rattle.opus_packet.specs.Value.{PacketValue, IsPacketValue}
 use Rattle.opus_packet.specs.Header.{Header, Sizes, equal, given, header_bytes, padding_data}
+
+-- most bytes of a packet: 96 of a header in front of a padding total, the largest total, and all frames
+abbrev pub max_packet : ℕ
+max_packet = 16838511
 
 -- all frames have one length
 abbrev pub HaveOneLength : List (List ℕ) → Type 0
 HaveOneLength frames = (n : ℕ) × AllByRecursion (λ frame. length frame ≡ n) frames
 
 -- What a code, VBR and a padding total ask of the frames: code 0 has one, code 1 two of one length, code 2
--- two, code 3 any, of one length without VBR. Code 3 alone has VBR and padding. The limit on the total is
--- this project's.
+-- two, code 3 any, of one length without VBR. Code 3 alone has VBR and padding.
 abbrev pub SuitsCode : ℕ → Bool → ℕ → List (List ℕ) → Type 0
 SuitsCode zero vbr pad frames = (vbr ≡ false) × (pad ≡ 0) × (length frames ≡ 1)
 SuitsCode (suc zero) vbr pad frames =
     (vbr ≡ false) × (pad ≡ 0) × (length frames ≡ 2) × HaveOneLength frames
 SuitsCode (suc (suc zero)) vbr pad frames = (vbr ≡ false) × (pad ≡ 0) × (length frames ≡ 2)
 SuitsCode (suc (suc (suc zero))) vbr pad frames =
-    (pad < 2 ^ 24) × (vbr ≡ false → HaveOneLength frames)
+    (pad < padding_limit) × (vbr ≡ false → HaveOneLength frames)
 SuitsCode (suc (suc (suc (suc code)))) vbr pad frames = ⊥
 
 -- the same for a shape

@@ -1,6 +1,7 @@
 -- A packet's places in some bytes: small numbers that tell where its parts lie.
-use Rattle.std.specs.Prelude.{◌≡◌, ℕ, ◌+◌, ◌-◌, ◌*◌, ◌^◌, ◌<◌, ◌≤◌, List, length}
+use Rattle.std.specs.Prelude.{◌≡◌, ℕ, ◌+◌, ◌-◌, ◌*◌, ◌<◌, ◌≤◌, List, length}
 use Rattle.std.specs.List.{slice_range}
+use Rattle.opus_flen.specs.PaddingLength.{padding_limit}
 use Rattle.opus_toc.specs.Configuration.{samples_of}
 use Rattle.opus_packet.specs.declared.places.Places.{Places}
 use Rattle.opus_packet.specs.declared.places.LensAt as declared
@@ -10,7 +11,7 @@ use Rattle.opus_packet.specs.declared.header.Sizes as declared_sizes
 use Rattle.opus_packet.specs.declared.header.Sizes.TheVariants.{Equal as EqualSizes, Given}
 use Rattle.opus_packet.specs.Value.{max_frame, max_duration}
 use Rattle.opus_packet.specs.Spelled.{lengths_in, SpellsLengths}
-use Rattle.opus_packet.specs.Header.{Header, Sizes, equal, given, header_bytes, body_size, padding_data}
+use Rattle.opus_packet.specs.Header.{max_header, Header, Sizes, equal, given, header_bytes, body_size, padding_data}
 use Rattle.opus_packet.specs.HeaderRead.{whole, header_read}
 
 -- the last bytes of the header, which spell the lengths
@@ -43,9 +44,9 @@ pub record HeaderFits (p : Places) (bytes : List ℕ) : Type 0 where
   pub said_is : header_read bytes ≡ whole (header_at p bytes)
   pub used_is : p.used ≡ length (header_bytes (header_at p bytes))
   pub within : p.used ≤ length bytes
-  pub small : p.used ≤ 65889
+  pub small : p.used ≤ max_header
   pub tail_is : p.tail ≡ padding_data p.shape.pad
-  pub tail_small : p.tail < 2 ^ 24
+  pub tail_small : p.tail < padding_limit
   pub code : p.toc.code ≡ p.shape.code
   pub some : 1 ≤ p.count
   pub most : p.count ≤ 48

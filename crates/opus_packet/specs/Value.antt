@@ -21,6 +21,10 @@ max_frame = 1275
 abbrev pub max_duration : ℕ
 max_duration = 5760
 
+-- most bytes of all frames: 48 of the longest
+abbrev pub max_body : ℕ
+max_body = 61200
+
 -- the bytes can be a frame
 abbrev pub IsFrame : List ℕ → Type 0
 IsFrame frame = length frame ≤ max_frame

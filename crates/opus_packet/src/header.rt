@@ -1,9 +1,9 @@
 //! The header of a packet: its bytes before the frames (RFC 6716, 3.2).
-ghost use Rattle.std.specs.Prelude.{◌≡◌, ℕ, ◌+◌, ◌*◌, ◌^◌, ◌<◌, ◌≤◌, length, IsTrue, false, IfSome, IfNone};
+ghost use Rattle.std.specs.Prelude.{◌≡◌, ℕ, ◌+◌, ◌*◌, ◌<◌, ◌≤◌, length, IsTrue, false, IfSome, IfNone};
 ghost use Rattle.opus_toc.specs.Toc.{code_of, config_of};
 ghost use Rattle.opus_toc.specs.Configuration.{samples_of};
-ghost use Rattle.opus_flen.specs.PaddingLength.{padding_read};
-ghost use Rattle.opus_packet.specs.Value.{max_duration, max_frame};
+ghost use Rattle.opus_flen.specs.PaddingLength.{padding_limit, padding_read};
+ghost use Rattle.opus_packet.specs.Value.{max_body, max_duration, max_frame};
 ghost use Rattle.opus_packet.specs.Header.{count_and_padding, padding_data, padding_length, body_size, equal};
 ghost use Rattle.opus_packet.specs.HeaderRead.{header_read, after_toc, after_padding, with_padding, with_lengths, lengths_read, shape_of, is_count, padded_of};
 ghost use Rattle.opus_packet.specs.HeaderStands.{ReadsHeader, IsMade, AreSized, Fills, sizes_value};
@@ -51,7 +51,7 @@ impl<'a> Header<'a> {
         requires sized { AreSized self.now.sizes }
         requires frame { last ≤ max_frame }
         ensures size { result ≡ body_size (sizes_value self.now.sizes) last }
-        ensures small { result ≤ 61200 }
+        ensures small { result ≤ max_body }
     {
         match &self.sizes {
             Sizes::Equal(count) => usize::from(*count) * usize::from(last),
@@ -152,9 +152,9 @@ fn plain(code: u8) -> Shape
 /// Padding bytes behind the frames, where the padding has `pad` bytes with its length, below 2^24.
 #[inline(always)]
 pub fn padding_len(pad: u32) -> usize
-    requires { pad < 2 ^ 24 }
+    requires { pad < padding_limit }
     ensures data { result ≡ padding_data pad }
-    ensures small { result < 2 ^ 24 }
+    ensures small { result < padding_limit }
 {
     if pad == 0 {
         0
@@ -166,7 +166,7 @@ pub fn padding_len(pad: u32) -> usize
 // The header with these parts.
 #[inline(always)]
 fn make(first: u8, shape: Shape, sizes: Sizes<'_>, used: usize) -> Header<'_>
-    requires pad { shape.pad < 2 ^ 24 }
+    requires pad { shape.pad < padding_limit }
     ensures { IsMade first shape sizes.entry used result }
 {
     Header {
@@ -183,7 +183,7 @@ fn make(first: u8, shape: Shape, sizes: Sizes<'_>, used: usize) -> Header<'_>
 fn read_given(first: u8, shape: Shape, rest: &[u8], count: u8, before: usize) -> HeaderRead<'_>
     requires most { count ≤ 47 }
     requires code { shape.code ≡ code_of first }
-    requires pad { shape.pad < 2 ^ 24 }
+    requires pad { shape.pad < padding_limit }
     requires before { before ≡ 1 + length (count_and_padding shape (count + 1)) }
     requires small { before ≤ 65795 }
     requires lasts { (count + 1) * samples_of (config_of first) ≤ max_duration }
@@ -247,7 +247,7 @@ fn read_padded(first: u8, count: u8, rest: &[u8]) -> HeaderRead<'_>
 fn read_sizes(first: u8, count: u8, pad: u32, rest: &[u8], before: usize) -> HeaderRead<'_>
     requires code { code_of first ≡ 3 }
     requires count { IsTrue (is_count first count) }
-    requires pad { pad < 2 ^ 24 }
+    requires pad { pad < padding_limit }
     requires before { before ≡ 2 + length (padding_length pad) }
     requires small { before ≤ 65795 }
     ensures { ReadsHeader (before + length rest.now) result

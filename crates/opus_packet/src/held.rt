@@ -1,6 +1,6 @@
 //! A packet's value that owns its bytes.
 ghost use Rattle.std.specs.Prelude.{◌≡◌, ℕ, [], ◌≤◌, length, map, IfOk};
-ghost use Rattle.opus_packet.specs.Tail.{kept, IsKept, kept_bytes};
+ghost use Rattle.opus_packet.specs.Tail.{max_tail, kept, IsKept, kept_bytes};
 ghost use Rattle.opus_packet.specs.Canonical.{keep_shape, kept_form};
 
 use crate::packet::Packet;
@@ -56,7 +56,7 @@ impl Held {
 
     // A copy of a packet's value with these padding bytes.
     fn copy_with(alloc: Global, packet: &Packet<'_>, tail: &[u8]) -> Result<Held, NoMemory>
-        requires { length tail.now ≤ 65535 }
+        requires { length tail.now ≤ max_tail }
         ensures value { IfOk result (λ h. h.value ≡ packet.now.value) }
         ensures tail { IfOk result (λ h. h.tail ≡ tail.now) }
     {

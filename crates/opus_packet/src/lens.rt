@@ -5,6 +5,7 @@ ghost use Rattle.opus_packet.specs.Value.{max_frame};
 ghost use Rattle.opus_packet.specs.Header.{frame_lengths};
 ghost use Rattle.opus_packet.specs.HeaderStands.{AreSized, sizes_value};
 ghost use Rattle.opus_packet.specs.SelfGrammar.{last_length};
+ghost use Rattle.opus_packet.specs.Lens.{spelling_of};
 ghost use Rattle.opus_packet.specs.Spelled.{SpellsLengths, SplitsTo};
 
 use crate::header::Sizes;
@@ -132,10 +133,7 @@ impl<'a> Lens<'a> {
             (λ bytes. bytes.now ≡ flat_map length_bytes (take (length self.now - 1) self.now)) }
         ensures most { IfSome result (λ bytes. length bytes.now ≤ 94) }
     {
-        match self.before {
-            Before::Spelled(bytes) => Some(bytes),
-            _ => None,
-        }
+        spelling(self.before)
     }
 
     // Whether all lengths are the first, looked at one by one.
@@ -152,6 +150,17 @@ impl<'a> Lens<'a> {
             }
         }
         true
+    }
+}
+
+// The bytes that spell the lengths before the last, exactly where they lie spelled.
+#[inline(always)]
+fn spelling(before: Before<'_>) -> Option<&[u8]>
+    ensures told { result ≡ spelling_of before.entry }
+{
+    match before {
+        Before::Spelled(bytes) => Some(bytes),
+        _ => None,
     }
 }
 

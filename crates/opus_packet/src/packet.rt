@@ -1,8 +1,9 @@
 //! A packet whose frames and padding bytes borrow from the bytes that it was read from.
-ghost use Rattle.std.specs.Prelude.{◌≡◌, ℕ, ◌+◌, ◌*◌, ◌^◌, ◌<◌, ◌≤◌, ◌↔◌, List, [], length, map, sum, All, IsTrue, slice_get, Some};
+ghost use Rattle.std.specs.Prelude.{◌≡◌, ℕ, ◌+◌, ◌*◌, ◌<◌, ◌≤◌, ◌↔◌, List, [], length, map, sum, All, IsTrue, slice_get, Some};
 ghost use Rattle.std.specs.List.{concat};
 ghost use Rattle.opus_toc.specs.Configuration.{samples_of};
-ghost use Rattle.opus_packet.specs.Value.{max_frame, max_duration, duration_of, IsPacketValue};
+ghost use Rattle.opus_flen.specs.PaddingLength.{padding_limit};
+ghost use Rattle.opus_packet.specs.Value.{max_frame, max_body, max_duration, duration_of, IsPacketValue};
 ghost use Rattle.opus_packet.specs.Cut.{cut};
 ghost use Rattle.opus_packet.specs.Tail.{tail_value, IsTail, IsWithinMost, kept, max_tail, tail_of};
 ghost use Rattle.opus_packet.specs.Header.{frame_count, body_size, padding_data};
@@ -121,7 +122,7 @@ impl<'a> Packet<'a> {
             ≤ max_duration }
         requires code { header.toc.code ≡ header.shape.code }
         requires padding { length tail.now ≡ padding_data header.shape.pad }
-        requires small { length tail.now < 2 ^ 24 }
+        requires small { length tail.now < padding_limit }
         ensures value { result.value ≡ value_with (header_value header.entry) last body.now }
         ensures shape { result.shape ≡ header.entry.shape }
         ensures size { result.size ≡ size }
@@ -255,7 +256,7 @@ impl<'a> Packet<'a> {
     #[inline(always)]
     pub fn body(&self) -> &'a [u8]
         ensures bytes { result.now ≡ concat self.now.value.frames }
-        ensures most { length result.now ≤ 61200 }
+        ensures most { length result.now ≤ max_body }
         // What every packet is: a value that its frames spell.
         ensures value { IsPacketValue self.now.value }
     {

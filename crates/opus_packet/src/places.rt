@@ -1,12 +1,13 @@
 //! Where a packet's parts lie: small numbers from which the packet is made again over the same bytes.
 ghost use Rattle.std.specs.Prelude.{◌≡◌, ℕ, ◌+◌, ◌-◌, ◌<◌, ◌≤◌, List, length, drop, IfOk, IfErr};
 ghost use Rattle.opus_toc.specs.Toc.{code_of};
+ghost use Rattle.opus_flen.specs.PaddingLength.{padding_limit};
 ghost use Rattle.opus_packet.specs.declared.shape.Shape.{Shape};
 ghost use Rattle.opus_packet.specs.Value.{PacketValue, max_frame};
-ghost use Rattle.opus_packet.specs.Header.{body_size};
+ghost use Rattle.opus_packet.specs.Header.{max_header, body_size};
 ghost use Rattle.opus_packet.specs.HeaderRead.{header_read};
 ghost use Rattle.opus_packet.specs.HeaderStands.{HeaderStands, AreSized, header_value, sizes_value, value_at};
-ghost use Rattle.opus_packet.specs.PacketGrammar.{Spells};
+ghost use Rattle.opus_packet.specs.PacketGrammar.{max_packet, Spells};
 ghost use Rattle.opus_packet.specs.PacketFault.{packet_fault, rule_of_part, rule_of_code, fault};
 ghost use Rattle.opus_packet.specs.Tail.{tail_of};
 ghost use Rattle.opus_packet.specs.HasTail.{HasTail};
@@ -63,8 +64,8 @@ impl Places {
     /// The places of a packet with this header, whose last frame has `last` bytes.
     #[inline(always)]
     pub fn of_header(header: Header<'_>, last: u16) -> Places
-        requires stands { header.used ≤ 65889 }
-        requires tail { header.tail < 16777216 }
+        requires stands { header.used ≤ max_header }
+        requires tail { header.tail < padding_limit }
         requires sized { AreSized header.sizes }
         ensures { IsFrom header.entry last result }
     {
@@ -142,7 +143,7 @@ impl Places {
         requires { Fits self.now bytes.now }
         ensures found { Spells result.value result.shape bytes.now }
         ensures size { result.size ≡ length bytes.now }
-        ensures most { result.size ≤ 16838511 }
+        ensures most { result.size ≤ max_packet }
         ensures only { (v : PacketValue) (s : Shape) → Spells v s bytes.now
             → (result.value ≡ v) × (result.shape ≡ s) }
         ensures tail { HasTail result bytes.now }

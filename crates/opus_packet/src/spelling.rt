@@ -1,6 +1,7 @@
 //! How frames of given lengths are spelled: shapes, and the sizes of headers.
-ghost use Rattle.std.specs.Prelude.{◌≡◌, ℕ, ◌+◌, ◌-◌, ◌*◌, ◌^◌, ◌<◌, ◌≤◌, ◌==◌, ◌||◌, Bool, length, take, flat_map};
+ghost use Rattle.std.specs.Prelude.{◌≡◌, ℕ, ◌+◌, ◌-◌, ◌*◌, ◌<◌, ◌≤◌, ◌==◌, ◌||◌, Bool, length, take, flat_map};
 ghost use Rattle.opus_flen.specs.FrameLength.{length_bytes};
+ghost use Rattle.opus_flen.specs.PaddingLength.{padding_limit};
 ghost use Rattle.opus_packet.specs.Value.{max_frame};
 ghost use Rattle.opus_packet.specs.Header.{header_bytes, count_and_padding};
 ghost use Rattle.opus_packet.specs.PacketGrammar.{header_in};
@@ -49,7 +50,7 @@ impl<'a> Lens<'a> {
     #[inline(always)]
     pub fn header_size(&self, shape: Shape) -> u32
         requires some { 1 ≤ length self.now }
-        requires pad { shape.pad < 2 ^ 24 }
+        requires pad { shape.pad < padding_limit }
         ensures size { (config : ℕ) (stereo : Bool)
             → result ≡ length (header_bytes (header_in config stereo shape self.now)) }
         ensures most { result ≤ 65891 }
@@ -110,7 +111,7 @@ fn width(len: u16) -> u32
 // Bytes of the count byte and the padding length.
 #[inline(always)]
 fn count_size(shape: Shape) -> u32
-    requires { shape.pad < 2 ^ 24 }
+    requires { shape.pad < padding_limit }
     ensures size { (count : ℕ) → result ≡ length (count_and_padding shape count) }
     ensures most { result ≤ 65794 }
 {

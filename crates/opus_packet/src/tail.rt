@@ -13,13 +13,13 @@ pub enum Tail<'a> {
 }
 
 impl<'a> Tail<'a> {
-    ghost use Rattle.std.specs.Prelude.{◌≡◌, ◌<◌, length};
+    ghost use Rattle.std.specs.Prelude.{◌≡◌, ◌^◌, ◌<◌, length};
     ghost use Rattle.opus_packet.specs.Tail.{tail_value, tail_of};
 
     /// These bytes where they are few enough to be kept, or their number.
     #[inline(always)]
     pub fn of_bytes(bytes: &'a [u8]) -> Tail<'a>
-        requires { length bytes.now < 4294967296 }
+        requires { length bytes.now < 2 ^ 32 }
         ensures { tail_value result ≡ tail_of bytes.now }
     {
         if bytes.len() <= MAX_TAIL {

@@ -1,5 +1,7 @@
 //! Packets with their answers.
 use crate::{Held, Packet, Rule, Tail, decode};
+use std::alloc::Global;
+use std::process::Abort;
 use std::test::Fail;
 
 // What `decode` says: the frames' count, code, VBR and padding total; or the rule and the place.
@@ -15,10 +17,23 @@ fn said(bytes: &[u8]) -> Said {
     }
 }
 
-// Rows: the first bytes, what fills the rest, how often it stands there, and what is said of all these bytes.
+// The first bytes, what fills the rest, how often it stands there, and what is said of all these bytes.
+type Row<'a> = (&'a [u8], u8, usize, Said);
+
+fn each_is_said(rt: &impl Abort, alloc: Global, rows: &[Row<'_>]) -> Result<(), Fail> {
+    for (front, fill, more, want) in rows {
+        let mut bytes = Vec::from_slice(alloc, front)?;
+        for _ in 0..*more {
+            bytes.push(*fill)?;
+        }
+        assert_eq!(rt; said(&bytes), *want, "{front:?} and {more} bytes of {fill}");
+    }
+    Ok(())
+}
+
 #[test]
-fn each_row_has_its_answer(rt: HostRuntime) -> Result<(), Fail> {
-    let table: [(&[u8], u8, usize, Said); 36] = [
+fn codes_0_to_2_have_their_answers(rt: HostRuntime) -> Result<(), Fail> {
+    let rows: [Row<'_>; 17] = [
         (&[], 0, 0, Err((Rule::R1, 0))),
         (&[0x08], 0, 0, Ok((1, 0, false, 0))),
         (&[0xF8], 0, 1275, Ok((1, 0, false, 0))),
@@ -36,6 +51,13 @@ fn each_row_has_its_answer(rt: HostRuntime) -> Result<(), Fail> {
         (&[0xFA, 255, 255], 0, 1274, Err((Rule::R4, 1277))),
         (&[0xFA, 255, 255], 0, 2550, Ok((2, 2, false, 0))),
         (&[0xFA, 255, 255], 0, 2551, Err((Rule::R2, 2553))),
+    ];
+    each_is_said(&rt, rt.alloc(), &rows)
+}
+
+#[test]
+fn code_3_has_its_answers(rt: HostRuntime) -> Result<(), Fail> {
+    let rows: [Row<'_>; 19] = [
         (&[0xFB], 0, 0, Err((Rule::R6, 1))),
         (&[0xFB, 1], 0, 1276, Err((Rule::R2, 1277))),
         (&[0xFB, 2, 0xAA], 0, 0, Err((Rule::R6, 3))),
@@ -56,15 +78,7 @@ fn each_row_has_its_answer(rt: HostRuntime) -> Result<(), Fail> {
         (&[0xFB, 0x41], 255, 65792, Err((Rule::R6, 65794))),
         (&[0xFB, 0x41], 255, 65793, Err((Rule::PadLimit, 65794))),
     ];
-    for (front, fill, more, want) in table {
-        let mut bytes = Vec::new(rt.alloc());
-        bytes.extend_from_slice(front)?;
-        for _ in 0..more {
-            bytes.push(fill)?;
-        }
-        assert_eq!(rt; said(&bytes), want, "{front:?} and {more} bytes of {fill}");
-    }
-    Ok(())
+    each_is_said(&rt, rt.alloc(), &rows)
 }
 
 // Rows: the first byte, a frame's samples at 48 kHz, and how many such frames last 120 ms.
@@ -183,50 +197,75 @@ fn tail_is(packet: &Packet<'_>, tail: &[u8]) -> bool {
     }
 }
 
-// Rows: a packet, how a copy of its value is spelled, its padding bytes, and how the copy with these is spelled.
+// Rows: a packet, and how a copy of its value is spelled.
 #[test]
 fn a_held_value_is_the_packets(rt: HostRuntime) -> Result<(), Fail> {
     let alloc = rt.alloc();
-    let table: [(&[u8], Spelling, &[u8], Spelling); 5] = [
-        (&[0xF8, 0xAA], (0, false, 0, 2), &[], (0, false, 0, 2)),
-        (
-            &[0xFB, 0x41, 0, 0xAA],
-            (0, false, 0, 2),
-            &[],
-            (0, false, 0, 2),
-        ),
+    let rows: [(&[u8], Spelling); 5] = [
+        (&[0xF8, 0xAA], (0, false, 0, 2)),
+        (&[0xFB, 0x41, 0, 0xAA], (0, false, 0, 2)),
         (
             &[0xFB, 0xC2, 2, 1, 0xAA, 0xBB, 0x11, 0x22],
             (1, false, 0, 3),
-            &[0x11, 0x22],
-            (3, false, 3, 7),
         ),
-        (
-            &[0xFB, 0xC2, 1, 0, 0xAA, 0xBB, 9],
-            (2, false, 0, 4),
-            &[9],
-            (3, true, 2, 7),
-        ),
-        (
-            &[0xFB, 0xC3, 1, 1, 0, 0xAA, 0xBB, 9],
-            (3, true, 0, 6),
-            &[9],
-            (3, true, 2, 8),
-        ),
+        (&[0xFB, 0xC2, 1, 0, 0xAA, 0xBB, 9], (2, false, 0, 4)),
+        (&[0xFB, 0xC3, 1, 1, 0, 0xAA, 0xBB, 9], (3, true, 0, 6)),
     ];
-    for (bytes, canonical, tail, kept) in table {
+    for (bytes, canonical) in rows {
         let packet = decode(bytes)?;
         let held = Held::copy(alloc, &packet)?;
         assert_eq!(rt; spelling(&held.view()), canonical);
         assert_eq!(rt; held.view().body(), packet.body());
         assert_eq!(rt; held.view().count(), packet.count());
         assert!(rt; tail_is(&held.view(), &[]));
+    }
+    Ok(())
+}
+
+// Rows: a packet, how the copy with its padding bytes is spelled, and these.
+#[test]
+fn held_padding_bytes_are_the_packets(rt: HostRuntime) -> Result<(), Fail> {
+    let alloc = rt.alloc();
+    let rows: [(&[u8], Spelling, &[u8]); 5] = [
+        (&[0xF8, 0xAA], (0, false, 0, 2), &[]),
+        (&[0xFB, 0x41, 0, 0xAA], (0, false, 0, 2), &[]),
+        (
+            b"\xfb\xc2\x02\x01ab\x11\x22",
+            (3, false, 3, 7),
+            &[0x11, 0x22],
+        ),
+        (&[0xFB, 0xC2, 1, 0, 0xAA, 0xBB, 9], (3, true, 2, 7), &[9]),
+        (&[0xFB, 0xC3, 1, 1, 0, 0xAA, 0xBB, 9], (3, true, 2, 8), &[9]),
+    ];
+    for (bytes, kept, tail) in rows {
+        let packet = decode(bytes)?;
+        assert!(rt; tail_is(&packet, tail));
         if let Tail::Bytes(_) = packet.tail() {
             let held = Held::copy_kept(alloc, &packet)?;
             assert_eq!(rt; spelling(&held.view()), kept);
             assert_eq!(rt; held.view().body(), packet.body());
             assert!(rt; tail_is(&held.view(), tail));
         }
+    }
+    Ok(())
+}
+
+// Rows: a packet, and the bytes in which the lengths of its frames but the last lie spelled.
+#[test]
+fn spelled_lengths_are_told(rt: HostRuntime) -> Result<(), Fail> {
+    let rows: [(&[u8], Option<&[u8]>); 6] = [
+        (&[0xF8, 0xAA], None),
+        (&[0xF9, 0xAA, 0xBB], None),
+        (&[0xFA, 1, 0xAA, 0xBB], Some(&[1])),
+        (&[0xFB, 2, 0xAA, 0xBB], None),
+        (&[0xFB, 0x81, 0xAA], Some(&[])),
+        (&[0xFB, 0xC3, 1, 1, 0, 0xAA, 0xBB, 9], Some(&[1, 0])),
+    ];
+    for (bytes, want) in rows {
+        let packet = decode(bytes)?;
+        assert_eq!(rt; packet.lens().spelled(), want);
+        let held = Held::copy(rt.alloc(), &packet)?;
+        assert_eq!(rt; held.view().lens().spelled(), None);
     }
     Ok(())
 }

@@ -3,7 +3,7 @@ ghost use Rattle.std.specs.Prelude.{◌≡◌, ◌≤◌, length, IfOk, IfErr};
 ghost use Rattle.std.specs.Result.{IsOkAnd};
 ghost use Rattle.opus_packet.specs.declared.shape.Shape.{Shape};
 ghost use Rattle.opus_packet.specs.Value.{PacketValue};
-ghost use Rattle.opus_packet.specs.PacketGrammar.{Spells};
+ghost use Rattle.opus_packet.specs.PacketGrammar.{max_packet, Spells};
 ghost use Rattle.opus_packet.specs.PacketFault.{packet_fault};
 ghost use Rattle.opus_packet.specs.HasTail.{HasTail};
 
@@ -19,7 +19,7 @@ pub fn decode(bytes: &[u8]) -> Result<Packet<'_>, Fault>
     // What is read is spelled so, each byte of it; and what is spelled so is read.
     ensures found { IfOk result (λ p. Spells p.value p.shape bytes.now) }
     ensures size { IfOk result (λ p. p.size ≡ length bytes.now) }
-    ensures most { IfOk result (λ p. p.size ≤ 16838511) }
+    ensures most { IfOk result (λ p. p.size ≤ max_packet) }
     ensures only { (v : PacketValue) (s : Shape) → Spells v s bytes.now
         → IsOkAnd result (λ p. (p.value ≡ v) × (p.shape ≡ s)) }
     ensures tail { IfOk result (λ p. HasTail p bytes.now) }
