@@ -10,7 +10,7 @@ ghost use Rattle.opus_packet.specs.HeaderStands.{HeaderStands};
 ghost use Rattle.opus_packet.specs.PacketFault.{fault};
 ghost use Rattle.opus_packet.specs.SelfGrammar.{SpellsSelf, BeginsWithSelf};
 ghost use Rattle.opus_packet.specs.SelfPrefix.{self_delimited_fault};
-ghost use Rattle.opus_self.specs.SelfFits.{SelfFits};
+ghost use Rattle.opus_self.specs.SelfFits.{SelfFits, max_self_packet};
 ghost use Rattle.opus_self.specs.HasSelfTail.{HasSelfTail};
 
 use opus_flen::{LenRead, read_len};
@@ -56,7 +56,7 @@ impl SelfPlaces {
         requires { SelfFits self.now bytes.now }
         ensures found { SpellsSelf result.value result.shape bytes.now }
         ensures size { result.size ≡ length bytes.now }
-        ensures most { result.size ≤ 16838513 }
+        ensures most { result.size ≤ max_self_packet }
         ensures only { (v : PacketValue) (s : Shape) → SpellsSelf v s bytes.now
             → (result.value ≡ v) × (result.shape ≡ s) }
         ensures tail { HasSelfTail result bytes.now }

@@ -5,6 +5,7 @@ ghost use Rattle.opus_packet.specs.declared.shape.Shape.{Shape};
 ghost use Rattle.opus_packet.specs.Value.{PacketValue};
 ghost use Rattle.opus_packet.specs.SelfGrammar.{BeginsWithSelf};
 ghost use Rattle.opus_packet.specs.SelfPrefix.{self_delimited_fault};
+ghost use Rattle.opus_self.specs.SelfFits.{max_self_packet};
 ghost use Rattle.opus_self.specs.HasSelfTail.{HasSelfTail};
 
 use crate::places::locate_self;
@@ -28,7 +29,7 @@ pub fn decode_self(bytes: &[u8]) -> Result<SelfRead<'_>, Fault>
     ensures found { IfOk result
         (λ r. BeginsWithSelf r.packet.value r.packet.shape r.used bytes.now) }
     ensures size { IfOk result (λ r. r.packet.size ≡ r.used) }
-    ensures most { IfOk result (λ r. r.used ≤ 16838513) }
+    ensures most { IfOk result (λ r. r.used ≤ max_self_packet) }
     ensures only { (v : PacketValue) (s : Shape) (used : ℕ) → BeginsWithSelf v s used bytes.now
         → IsOkAnd result (λ r. (r.packet.value ≡ v) × (r.packet.shape ≡ s) × (r.used ≡ used)) }
     ensures tail { IfOk result (λ r. HasSelfTail r.packet (take r.used bytes.now)) }
