@@ -1,5 +1,5 @@
 -- A written form is its header, its frames and its padding bytes; and how large it is.
-use Rattle.std.proofs.Common.{◌≡◌, ℕ, ◌+◌, List, [], ◌++◌, length, map, refl, sym, ap, ◌∙◌, append-nil, length-append, arith}
+use Rattle.std.proofs.Common.{◌≡◌, ℕ, Bool, true, false, ◌+◌, List, [], ◌++◌, length, map, refl, sym, ap, ◌∙◌, append-nil, length-append, arith}
 use Rattle.std.specs.List.{concat}
 use Rattle.opus_flen.specs.FrameLength.{length_bytes}
 use Rattle.opus_packet.specs.declared.shape.Shape.{Shape}
@@ -9,7 +9,7 @@ use Rattle.opus_packet.specs.PacketGrammar.{header_in}
 use Rattle.opus_packet.specs.SelfGrammar.{last_length}
 use Rattle.opus_packet.specs.Canonical.{canonical, canonical_self_delimited, keep_shape, kept_form, kept_self_delimited}
 use Rattle.opus_packet.proofs.SpellingLemmas.{kept_form-is, kept_form-nil}
-use Rattle.opus_writer.specs.Forms.{canonical_header, canonical_self_header, keep_header, keep_self_header}
+use Rattle.opus_writer.specs.Forms.{canonical_header, canonical_self_header, canonical_in, canonical_header_in, keep_header, keep_self_header, kept_in, keep_header_in}
 
 pub kept_self-is : (v : PacketValue) (tail : List ℕ)
     → kept_self_delimited v tail ≡ keep_self_header v (length tail) ++ concat v.frames ++ tail
@@ -47,6 +47,19 @@ pub canonical_self-joined : (v : PacketValue) (header body : List ℕ) → heade
     → body ≡ concat v.frames → header ++ body ≡ canonical_self_delimited v
 canonical_self-joined v header body h b =
     sym (append-nil (header ++ body)) ∙ kept_self-joined v [] header body [] h b refl ∙ kept_self-nil v
+
+-- the same in either framing
+
+pub canonical_in-joined : (own : Bool) (v : PacketValue) (header body : List ℕ) → header ≡ canonical_header_in own v
+    → body ≡ concat v.frames → header ++ body ≡ canonical_in own v
+canonical_in-joined true v header body h b = canonical_self-joined v header body h b
+canonical_in-joined false v header body h b = canonical-joined v header body h b
+
+pub kept_in-joined : (own : Bool) (v : PacketValue) (tail header body bytes : List ℕ)
+    → header ≡ keep_header_in own v (length tail) → body ≡ concat v.frames → bytes ≡ tail
+    → (header ++ body) ++ bytes ≡ kept_in own v tail
+kept_in-joined true v tail header body bytes h b t = kept_self-joined v tail header body bytes h b t
+kept_in-joined false v tail header body bytes h b t = kept-joined v tail header body bytes h b t
 
 -- sizes
 pub kept-size : (v : PacketValue) (tail lens body : List ℕ) (shape : Shape) (n : ℕ) → lens ≡ map length v.frames

@@ -1,13 +1,14 @@
 //! The headers of the written forms, made where they stand. The array may hold other bytes before the header, so
 //! that both are written as one piece.
-ghost use Rattle.std.specs.Prelude.{◌≡◌, ℕ, ◌+◌, ◌-◌, ◌*◌, ◌^◌, ◌≤◌, ◌<◌, ◌++◌, ◌∷◌, length, map, take, flat_map};
+ghost use Rattle.std.specs.Prelude.{◌≡◌, ℕ, ◌+◌, ◌-◌, ◌*◌, ◌≤◌, ◌<◌, ◌++◌, ◌∷◌, length, map, take, flat_map};
 ghost use Rattle.arrayvec.specs.ArrayVec.{array_vec_len};
 ghost use Rattle.opus_flen.specs.FrameLength.{length_bytes};
+ghost use Rattle.opus_flen.specs.PaddingLength.{padding_limit};
 ghost use Rattle.opus_packet.specs.Value.{max_frame};
 ghost use Rattle.opus_packet.specs.Header.{padding_length, count_byte, count_and_padding, header_bytes};
 ghost use Rattle.opus_packet.specs.PacketGrammar.{header_in};
 ghost use Rattle.opus_packet.specs.Tail.{max_tail};
-ghost use Rattle.opus_writer.specs.Forms.{canonical_header, canonical_self_header, keep_header, keep_self_header};
+ghost use Rattle.opus_writer.specs.Forms.{canonical_header, canonical_self_header, canonical_header_in, keep_header, keep_self_header, keep_header_in};
 
 use arrayvec::ArrayVec;
 use opus_flen::{len_bytes, pad_parts};
@@ -68,6 +69,46 @@ pub fn push_keep_self_header<const N: usize>(
     push_length(packet.lens().last_len(), header);
 }
 
+// Appends the header of the canonical form, self-delimited where `own` says so.
+#[inline(always)]
+pub(crate) fn push_canon_in<const N: usize>(
+    packet: &Packet<'_>,
+    own: bool,
+    header: &mut ArrayVec<u8, N>,
+)
+    requires { array_vec_len header.old + 98 ≤ N }
+    ensures bytes { header.new.items
+        ≡ header.old.items ++ canonical_header_in own packet.now.value }
+    ensures most { array_vec_len header.new ≤ array_vec_len header.old + 98 }
+{
+    if own {
+        push_canon_self_header(packet, header);
+    } else {
+        push_canon_header(packet, header);
+    }
+}
+
+// Appends the header of the kept form with `tail` padding bytes, self-delimited where `own` says so.
+#[inline(always)]
+pub(crate) fn push_keep_in<const N: usize>(
+    packet: &Packet<'_>,
+    own: bool,
+    tail: u32,
+    header: &mut ArrayVec<u8, N>,
+)
+    requires tail { tail ≤ max_tail }
+    requires room { array_vec_len header.old + 357 ≤ N }
+    ensures bytes { header.new.items
+        ≡ header.old.items ++ keep_header_in own packet.now.value tail }
+    ensures most { array_vec_len header.new ≤ array_vec_len header.old + 357 }
+{
+    if own {
+        push_keep_self_header(packet, tail, header);
+    } else {
+        push_keep_header(packet, tail, header);
+    }
+}
+
 // Appends the header of a packet with frames of these lengths in a shape (RFC 6716, 3.2).
 #[inline(always)]
 fn push_header<const N: usize>(
@@ -77,7 +118,7 @@ fn push_header<const N: usize>(
     header: &mut ArrayVec<u8, N>,
 )
     requires code { shape.code < 4 }
-    requires pad { shape.pad < 2 ^ 24 }
+    requires pad { shape.pad < padding_limit }
     requires some { 1 ≤ length lens.now }
     requires room { array_vec_len header.old + 96 + length (padding_length shape.pad) ≤ N }
     ensures bytes { header.new.items
@@ -96,7 +137,7 @@ fn push_header<const N: usize>(
 #[inline(always)]
 fn push_count<const N: usize>(shape: Shape, count: u8, header: &mut ArrayVec<u8, N>)
     requires count { count ≤ 48 }
-    requires pad { shape.pad < 2 ^ 24 }
+    requires pad { shape.pad < padding_limit }
     requires room { array_vec_len header.old + 1 + length (padding_length shape.pad) ≤ N }
     ensures bytes { header.new.items ≡ header.old.items ++ count_and_padding shape count }
     ensures most { array_vec_len header.new
@@ -124,7 +165,7 @@ pub(crate) fn count_byte(shape: Shape, count: u8) -> u8
 // Appends a padding length.
 fn push_pad<const N: usize>(pad: u32, header: &mut ArrayVec<u8, N>)
     requires some { 1 ≤ pad }
-    requires most { pad < 2 ^ 24 }
+    requires most { pad < padding_limit }
     requires room { array_vec_len header.old + length (padding_length pad) ≤ N }
     ensures bytes { header.new.items ≡ header.old.items ++ padding_length pad }
 {

@@ -1,5 +1,6 @@
 //! Laws of the written forms: each is the contract of a function that does nothing.
-ghost use Rattle.std.specs.Prelude.{◌≡◌, ℕ, ◌^◌, ◌<◌, ◌≤◌, List, [], map, length};
+ghost use Rattle.std.specs.Prelude.{◌≡◌, ℕ, ◌<◌, ◌≤◌, List, [], map, length};
+ghost use Rattle.opus_flen.specs.PaddingLength.{padding_limit};
 ghost use Rattle.opus_packet.specs.Value.{PacketValue, IsPacketValue};
 ghost use Rattle.opus_packet.specs.Header.{padding_data, padding_length};
 ghost use Rattle.opus_packet.specs.PacketGrammar.{IsPacket};
@@ -64,5 +65,5 @@ pub fn a_padded_form_has_its_size()
     ensures size { (v : PacketValue) (size : ℕ)
         → length (canonical v) ≤ size → length (padded_to v size) ≡ size }
     ensures spelled { (v : PacketValue) (size : ℕ) → IsPacketValue v
-        → padding_for v size < 2 ^ 24 → IsZeroPadded v (padded_to v size) }
+        → padding_for v size < padding_limit → IsZeroPadded v (padded_to v size) }
 {}

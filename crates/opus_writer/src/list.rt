@@ -1,11 +1,11 @@
 //! The written forms appended to a list: a header, the frames, and the padding bytes where they are kept.
 ghost use Rattle.std.specs.Prelude.{◌≡◌, ◌+◌, ◌<◌, ◌≤◌, ◌++◌, length, vec_len, vec_capacity, OnOk, OnErr};
-ghost use Rattle.opus_packet.specs.Tail.{IsKept, kept_bytes};
+ghost use Rattle.opus_packet.specs.Value.{max_body};
+ghost use Rattle.opus_packet.specs.Tail.{max_tail, IsKept, kept_bytes};
 ghost use Rattle.opus_packet.specs.Canonical.{canonical, canonical_self_delimited, kept_form, kept_self_delimited};
+ghost use Rattle.opus_writer.specs.Forms.{canonical_in, kept_in};
 
-use crate::header::{
-    push_canon_header, push_canon_self_header, push_keep_header, push_keep_self_header,
-};
+use crate::header::{push_canon_in, push_keep_in};
 use crate::size::tail_bytes;
 use arrayvec::ArrayVec;
 use opus_io::NoMemory;
@@ -20,9 +20,7 @@ pub fn write_canon(packet: &Packet<'_>, out: &mut Vec<u8>) -> Result<(), NoMemor
         (vec_capacity out.old < vec_len out.old + length (canonical packet.now.value)) }
     ensures capacity { vec_capacity out.old ≤ vec_capacity out.new }
 {
-    let mut header: ArrayVec<u8, 98> = ArrayVec::new();
-    push_canon_header(packet, &mut header);
-    append(header.as_slice(), packet.body(), &[], out)
+    append_canon(packet, false, out)
 }
 
 /// Appends the canonical self-delimited form (RFC 6716, Appendix B), which is spelled in the same cases.
@@ -35,9 +33,7 @@ pub fn write_canon_self(packet: &Packet<'_>, out: &mut Vec<u8>) -> Result<(), No
         + length (canonical_self_delimited packet.now.value)) }
     ensures capacity { vec_capacity out.old ≤ vec_capacity out.new }
 {
-    let mut header: ArrayVec<u8, 98> = ArrayVec::new();
-    push_canon_self_header(packet, &mut header);
-    append(header.as_slice(), packet.body(), &[], out)
+    append_canon(packet, true, out)
 }
 
 /// Appends the kept form: the canonical form where there are no padding bytes, and else code 3 with the packet's
@@ -52,10 +48,7 @@ pub fn write_keep(packet: &Packet<'_>, out: &mut Vec<u8>) -> Result<(), NoMemory
         + length (kept_form packet.now.value (kept_bytes packet.now.tail))) }
     ensures capacity { vec_capacity out.old ≤ vec_capacity out.new }
 {
-    let tail = tail_bytes(packet);
-    let mut header: ArrayVec<u8, 360> = ArrayVec::new();
-    push_keep_header(packet, tail.len() as u32, &mut header);
-    append(header.as_slice(), packet.body(), tail, out)
+    append_kept(packet, false, out)
 }
 
 /// Appends the kept self-delimited form, which is spelled in the same cases.
@@ -69,17 +62,46 @@ pub fn write_keep_self(packet: &Packet<'_>, out: &mut Vec<u8>) -> Result<(), NoM
         + length (kept_self_delimited packet.now.value (kept_bytes packet.now.tail))) }
     ensures capacity { vec_capacity out.old ≤ vec_capacity out.new }
 {
+    append_kept(packet, true, out)
+}
+
+// Appends the canonical form, self-delimited where `own` says so.
+#[inline(always)]
+fn append_canon(packet: &Packet<'_>, own: bool, out: &mut Vec<u8>) -> Result<(), NoMemory>
+    ensures ok { OnOk result (out.new.items ≡ out.old.items ++ canonical_in own packet.now.value) }
+    ensures err { OnErr result (out.new.items ≡ out.old.items) }
+    ensures full { OnErr result
+        (vec_capacity out.old < vec_len out.old + length (canonical_in own packet.now.value)) }
+    ensures capacity { vec_capacity out.old ≤ vec_capacity out.new }
+{
+    let mut header: ArrayVec<u8, 98> = ArrayVec::new();
+    push_canon_in(packet, own, &mut header);
+    append(header.as_slice(), packet.body(), &[], out)
+}
+
+// Appends the kept form, self-delimited where `own` says so.
+#[inline(always)]
+fn append_kept(packet: &Packet<'_>, own: bool, out: &mut Vec<u8>) -> Result<(), NoMemory>
+    requires { IsKept packet.now.tail }
+    ensures ok { OnOk result
+        (out.new.items ≡ out.old.items ++ kept_in own packet.now.value (kept_bytes packet.now.tail)) }
+    ensures err { OnErr result (out.new.items ≡ out.old.items) }
+    ensures full { OnErr result
+        (vec_capacity out.old < vec_len out.old
+        + length (kept_in own packet.now.value (kept_bytes packet.now.tail))) }
+    ensures capacity { vec_capacity out.old ≤ vec_capacity out.new }
+{
     let tail = tail_bytes(packet);
     let mut header: ArrayVec<u8, 360> = ArrayVec::new();
-    push_keep_self_header(packet, tail.len() as u32, &mut header);
+    push_keep_in(packet, own, tail.len() as u32, &mut header);
     append(header.as_slice(), packet.body(), tail, out)
 }
 
 // Appends a header, the frames and the padding bytes.
 fn append(header: &[u8], body: &[u8], tail: &[u8], out: &mut Vec<u8>) -> Result<(), NoMemory>
     requires header { length header.now ≤ 360 }
-    requires body { length body.now ≤ 61200 }
-    requires tail { length tail.now ≤ 65535 }
+    requires body { length body.now ≤ max_body }
+    requires tail { length tail.now ≤ max_tail }
     ensures ok { OnOk result
         (out.new.items ≡ out.old.items ++ (header.now ++ body.now ++ tail.now)) }
     ensures err { OnErr result (out.new.items ≡ out.old.items) }

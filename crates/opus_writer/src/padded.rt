@@ -1,8 +1,9 @@
 //! The form of a packet's value that has a given size.
-ghost use Rattle.std.specs.Prelude.{◌≡◌, ℕ, ◌+◌, ◌-◌, ◌^◌, ◌<◌, ◌≤◌, ◌↔◌, [], ◌∷◌, ◌++◌, length, map, replicate, flat_map, vec_len, vec_capacity, Err, OnOk, OnErr, IsErrOf};
+ghost use Rattle.std.specs.Prelude.{◌≡◌, ℕ, ◌+◌, ◌-◌, ◌<◌, ◌≤◌, ◌↔◌, [], ◌∷◌, ◌++◌, length, map, replicate, flat_map, vec_len, vec_capacity, Err, OnOk, OnErr, IsErrOf};
 ghost use Rattle.arrayvec.specs.ArrayVec.{array_vec_len};
 ghost use Rattle.opus_toc.specs.Toc.{toc_byte};
 ghost use Rattle.opus_flen.specs.FrameLength.{length_bytes};
+ghost use Rattle.opus_flen.specs.PaddingLength.{padding_limit};
 ghost use Rattle.opus_packet.specs.Header.{count_byte, given_lengths, padding_length};
 ghost use Rattle.opus_packet.specs.PacketGrammar.{sizes_for};
 ghost use Rattle.opus_packet.specs.Canonical.{canonical};
@@ -35,7 +36,7 @@ pub fn write_padded(packet: &Packet<'_>, size: u32, out: &mut Vec<u8>) -> Result
     ensures too_small { (result ≡ Err PadFault.TooSmall)
         ↔ (size < length (canonical packet.now.value)) }
     ensures pad_limit { (result ≡ Err PadFault.PadLimit)
-        ↔ (2 ^ 24 ≤ padding_for packet.now.value size) }
+        ↔ (padding_limit ≤ padding_for packet.now.value size) }
     ensures err { OnErr result (out.new.items ≡ out.old.items) }
     ensures full { IsErrOf result PadFault.NoMemory → vec_capacity out.old < vec_len out.old + size }
     ensures capacity { vec_capacity out.old ≤ vec_capacity out.new }
@@ -81,7 +82,7 @@ fn plain_size(packet: &Packet<'_>) -> u32
 
 // Appends the packet in code 3 with so much padding.
 fn append_padded(packet: &Packet<'_>, pad: u32, out: &mut Vec<u8>) -> Result<(), NoMemory>
-    requires { pad < 2 ^ 24 }
+    requires { pad < padding_limit }
     ensures ok { OnOk result (out.new.items ≡ out.old.items ++ padded_by packet.now.value pad) }
     ensures err { OnErr result (out.new.items ≡ out.old.items) }
     ensures full { OnErr result
@@ -143,7 +144,7 @@ fn lens_of(packet: &Packet<'_>, shape: Shape) -> ArrayVec<u8, 94>
 
 // Bytes of a padding length.
 fn pad_size(pad: u32) -> usize
-    requires { pad < 2 ^ 24 }
+    requires { pad < padding_limit }
     ensures size { result ≡ length (padding_length pad) }
     ensures most { result ≤ 65793 }
 {
@@ -156,7 +157,7 @@ fn pad_size(pad: u32) -> usize
 
 // Appends a padding length, for which there is room.
 fn push_pad(pad: u32, out: &mut Vec<u8>)
-    requires most { pad < 2 ^ 24 }
+    requires most { pad < padding_limit }
     requires room { vec_len out.old + length (padding_length pad) ≤ vec_capacity out.old }
     ensures bytes { out.new.items ≡ out.old.items ++ padding_length pad }
     ensures capacity { vec_capacity out.old ≤ vec_capacity out.new }

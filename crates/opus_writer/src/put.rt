@@ -3,11 +3,10 @@ ghost use Rattle.opus_packet.specs.Tail.{IsKept, kept_bytes};
 ghost use Rattle.opus_packet.specs.Canonical.{canonical, canonical_self_delimited, kept_form, kept_self_delimited};
 ghost use Rattle.std.specs.Prelude.{◌++◌};
 ghost use Rattle.opus_io.specs.Sink.{SinkCause};
+ghost use Rattle.opus_writer.specs.Forms.{canonical_in, kept_in};
 ghost use Rattle.opus_writer.specs.Puts.{Puts};
 
-use crate::header::{
-    push_canon_header, push_canon_self_header, push_keep_header, push_keep_self_header,
-};
+use crate::header::{push_canon_in, push_keep_in};
 use crate::size::tail_bytes;
 use arrayvec::ArrayVec;
 use opus_io::{Sink, SinkStop, write_all};
@@ -22,9 +21,7 @@ pub fn put_canon<O: Sink>(packet: &Packet<'_>, sink: &mut O) -> Result<(), SinkS
     ensures cause { SinkCause (O.faults sink.old) (O.faults sink.new)
         (O.refusals sink.old) (O.refusals sink.new) result }
 {
-    let mut header: ArrayVec<u8, 98> = ArrayVec::new();
-    push_canon_header(packet, &mut header);
-    put_two(header.as_slice(), packet.body(), sink)
+    put_canon_in(packet, false, sink)
 }
 
 /// Writes the canonical self-delimited form, with stops as those of `put_canon`.
@@ -35,9 +32,7 @@ pub fn put_canon_self<O: Sink>(packet: &Packet<'_>, sink: &mut O) -> Result<(), 
     ensures cause { SinkCause (O.faults sink.old) (O.faults sink.new)
         (O.refusals sink.old) (O.refusals sink.new) result }
 {
-    let mut header: ArrayVec<u8, 98> = ArrayVec::new();
-    push_canon_self_header(packet, &mut header);
-    put_two(header.as_slice(), packet.body(), sink)
+    put_canon_in(packet, true, sink)
 }
 
 /// Writes the kept form, with stops as those of `put_canon`.
@@ -49,10 +44,7 @@ pub fn put_keep<O: Sink>(packet: &Packet<'_>, sink: &mut O) -> Result<(), SinkSt
     ensures cause { SinkCause (O.faults sink.old) (O.faults sink.new)
         (O.refusals sink.old) (O.refusals sink.new) result }
 {
-    let tail = tail_bytes(packet);
-    let mut header: ArrayVec<u8, 360> = ArrayVec::new();
-    push_keep_header(packet, tail.len() as u32, &mut header);
-    put_three(header.as_slice(), packet.body(), tail, sink)
+    put_keep_in(packet, false, sink)
 }
 
 /// Writes the kept self-delimited form, with stops as those of `put_canon`.
@@ -64,9 +56,34 @@ pub fn put_keep_self<O: Sink>(packet: &Packet<'_>, sink: &mut O) -> Result<(), S
     ensures cause { SinkCause (O.faults sink.old) (O.faults sink.new)
         (O.refusals sink.old) (O.refusals sink.new) result }
 {
+    put_keep_in(packet, true, sink)
+}
+
+// Writes the canonical form, self-delimited where `own` says so.
+#[inline(always)]
+fn put_canon_in<O: Sink>(packet: &Packet<'_>, own: bool, sink: &mut O) -> Result<(), SinkStop>
+    ensures bytes { Puts (O.contents sink.old) (O.contents sink.new)
+        (canonical_in own packet.now.value) result }
+    ensures cause { SinkCause (O.faults sink.old) (O.faults sink.new)
+        (O.refusals sink.old) (O.refusals sink.new) result }
+{
+    let mut header: ArrayVec<u8, 98> = ArrayVec::new();
+    push_canon_in(packet, own, &mut header);
+    put_two(header.as_slice(), packet.body(), sink)
+}
+
+// Writes the kept form, self-delimited where `own` says so.
+#[inline(always)]
+fn put_keep_in<O: Sink>(packet: &Packet<'_>, own: bool, sink: &mut O) -> Result<(), SinkStop>
+    requires { IsKept packet.now.tail }
+    ensures bytes { Puts (O.contents sink.old) (O.contents sink.new)
+        (kept_in own packet.now.value (kept_bytes packet.now.tail)) result }
+    ensures cause { SinkCause (O.faults sink.old) (O.faults sink.new)
+        (O.refusals sink.old) (O.refusals sink.new) result }
+{
     let tail = tail_bytes(packet);
     let mut header: ArrayVec<u8, 360> = ArrayVec::new();
-    push_keep_self_header(packet, tail.len() as u32, &mut header);
+    push_keep_in(packet, own, tail.len() as u32, &mut header);
     put_three(header.as_slice(), packet.body(), tail, sink)
 }
 

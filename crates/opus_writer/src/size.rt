@@ -4,6 +4,7 @@ ghost use Rattle.opus_flen.specs.FrameLength.{length_bytes};
 ghost use Rattle.opus_packet.specs.SelfGrammar.{last_length};
 ghost use Rattle.opus_packet.specs.Tail.{IsKept, kept_bytes, max_tail};
 ghost use Rattle.opus_packet.specs.Canonical.{canonical, canonical_self_delimited, kept_form, kept_self_delimited};
+ghost use Rattle.opus_writer.specs.Forms.{max_canonical, max_canonical_self, max_kept, max_kept_self};
 
 use opus_packet::{Packet, Tail};
 
@@ -11,7 +12,7 @@ use opus_packet::{Packet, Tail};
 #[inline(always)]
 pub fn canon_size(packet: &Packet<'_>) -> u32
     ensures size { result ≡ length (canonical packet.now.value) }
-    ensures most { result ≤ 61295 }
+    ensures most { result ≤ max_canonical }
 {
     let lens = packet.lens();
     lens.header_size(lens.canonical_shape()) + packet.body().len() as u32
@@ -21,7 +22,7 @@ pub fn canon_size(packet: &Packet<'_>) -> u32
 #[inline(always)]
 pub fn canon_self_size(packet: &Packet<'_>) -> u32
     ensures size { result ≡ length (canonical_self_delimited packet.now.value) }
-    ensures most { result ≤ 61297 }
+    ensures most { result ≤ max_canonical_self }
 {
     canon_size(packet) + last_width(packet)
 }
@@ -31,7 +32,7 @@ pub fn canon_self_size(packet: &Packet<'_>) -> u32
 pub fn keep_size(packet: &Packet<'_>) -> u32
     requires { IsKept packet.now.tail }
     ensures size { result ≡ length (kept_form packet.now.value (kept_bytes packet.now.tail)) }
-    ensures most { result ≤ 192626 }
+    ensures most { result ≤ max_kept }
 {
     let lens = packet.lens();
     let tail = tail_bytes(packet).len() as u32;
@@ -44,7 +45,7 @@ pub fn keep_self_size(packet: &Packet<'_>) -> u32
     requires { IsKept packet.now.tail }
     ensures size { result
         ≡ length (kept_self_delimited packet.now.value (kept_bytes packet.now.tail)) }
-    ensures most { result ≤ 192628 }
+    ensures most { result ≤ max_kept_self }
 {
     keep_size(packet) + last_width(packet)
 }

@@ -7,6 +7,7 @@ use crate::{
 use opus_io::{MemorySink, NoMemory, SinkStop};
 use opus_packet::{Packet, Tail, decode};
 use std::alloc::Global;
+use std::process::Abort;
 use std::test::Fail;
 
 // A packet of one frame AA, whose padding length has so many bytes 255 and a last byte, and its padding bytes.
@@ -109,101 +110,96 @@ fn put(form: Form, packet: &Packet<'_>, sink: &mut MemorySink) -> Result<(), Sin
     }
 }
 
-// Rows: a packet, its canonical form, undelimited and self-delimited, and its kept form in both framings.
+// One form of a packet, to a list and to a sink. A sink that fails at a call keeps what the calls before it wrote:
+// with steps of one byte that is a byte a call. Where the number of the call is 0 no call fails.
+fn form_is_written(
+    rt: &impl Abort,
+    alloc: Global,
+    form: Form,
+    packet: &Packet<'_>,
+    want: &[u8],
+) -> Result<(), Fail> {
+    let mut out = Vec::new(alloc);
+    write(form, packet, &mut out)?;
+    assert_eq!(rt; out.as_slice(), want);
+    assert_eq!(rt; size(form, packet) as usize, want.len());
+    for fail in 0..=want.len() {
+        let mut sink = MemorySink::new(alloc, 1, &[fail as u64])?;
+        let answer = put(form, packet, &mut sink);
+        let written = if fail == 0 { want.len() } else { fail - 1 };
+        assert_eq!(rt; answer.is_ok(), fail == 0);
+        assert!(rt; want.starts_with(sink.contents()));
+        assert_eq!(rt; sink.contents().len(), written);
+        let mut sink = MemorySink::new(alloc, 4096, &[fail as u64])?;
+        let answer = put(form, packet, &mut sink);
+        assert_eq!(rt; answer.is_ok(), sink.contents() == want);
+        assert!(rt; want.starts_with(sink.contents()));
+    }
+    Ok(())
+}
+
+// Rows: a packet, and its canonical form, undelimited and self-delimited.
 #[test]
-fn each_form_goes_to_a_list_and_to_a_sink(rt: HostRuntime) -> Result<(), Fail> {
-    let alloc = rt.alloc();
-    let table: [[&[u8]; 5]; 8] = [
+fn each_canonical_form_is_written(rt: HostRuntime) -> Result<(), Fail> {
+    let rows: [[&[u8]; 3]; 8] = [
+        [b"\xf8\xaa", b"\xf8\xaa", b"\xf8\x01\xaa"],
+        [b"\xfc", b"\xfc", b"\xfc\0"],
+        [b"\xfb\x41\0\xaa", b"\xf8\xaa", b"\xf8\x01\xaa"],
+        [b"\xfa\x01\xaa\xbb", b"\xf9\xaa\xbb", b"\xf9\x01\xaa\xbb"],
+        [b"\xfa\x01abc", b"\xfa\x01abc", b"\xfa\x01\x02abc"],
+        [b"\xfb\x41\x01ab\0", b"\xf8ab", b"\xf8\x02ab"],
+        [b"\xfb\xc2\x02\x01ab\x11\x22", b"\xf9ab", b"\xf9\x01ab"],
         [
-            b"\xf8\xaa",
-            b"\xf8\xaa",
-            b"\xf8\x01\xaa",
-            b"\xf8\xaa",
-            b"\xf8\x01\xaa",
+            b"\xfb\xc3\x01\x01\0ab\x99",
+            b"\xfb\x83\x01\0ab",
+            b"\xfb\x83\x01\0\x01ab",
         ],
-        [b"\xfc", b"\xfc", b"\xfc\0", b"\xfc", b"\xfc\0"],
-        [
-            b"\xfb\x41\0\xaa",
-            b"\xf8\xaa",
-            b"\xf8\x01\xaa",
-            b"\xf8\xaa",
-            b"\xf8\x01\xaa",
-        ],
-        [
-            b"\xfa\x01\xaa\xbb",
-            b"\xf9\xaa\xbb",
-            b"\xf9\x01\xaa\xbb",
-            b"\xf9\xaa\xbb",
-            b"\xf9\x01\xaa\xbb",
-        ],
-        [
-            b"\xfa\x01abc",
-            b"\xfa\x01abc",
-            b"\xfa\x01\x02abc",
-            b"\xfa\x01abc",
-            b"\xfa\x01\x02abc",
-        ],
+    ];
+    for [bytes, plain, own] in rows {
+        let packet = decode(bytes)?;
+        form_is_written(&rt, rt.alloc(), Form::Canonical, &packet, plain)?;
+        form_is_written(&rt, rt.alloc(), Form::CanonicalSelf, &packet, own)?;
+    }
+    Ok(())
+}
+
+// Rows: a packet, and its kept form, undelimited and self-delimited.
+#[test]
+fn each_kept_form_is_written(rt: HostRuntime) -> Result<(), Fail> {
+    let rows: [[&[u8]; 3]; 8] = [
+        [b"\xf8\xaa", b"\xf8\xaa", b"\xf8\x01\xaa"],
+        [b"\xfc", b"\xfc", b"\xfc\0"],
+        [b"\xfb\x41\0\xaa", b"\xf8\xaa", b"\xf8\x01\xaa"],
+        [b"\xfa\x01\xaa\xbb", b"\xf9\xaa\xbb", b"\xf9\x01\xaa\xbb"],
+        [b"\xfa\x01abc", b"\xfa\x01abc", b"\xfa\x01\x02abc"],
         [
             b"\xfb\x41\x01ab\0",
-            b"\xf8ab",
-            b"\xf8\x02ab",
             b"\xfb\x41\x01ab\0",
             b"\xfb\x41\x01\x02ab\0",
         ],
         [
             b"\xfb\xc2\x02\x01ab\x11\x22",
-            b"\xf9ab",
-            b"\xf9\x01ab",
             b"\xfb\x42\x02ab\x11\x22",
             b"\xfb\x42\x02\x01ab\x11\x22",
         ],
         [
             b"\xfb\xc3\x01\x01\0ab\x99",
-            b"\xfb\x83\x01\0ab",
-            b"\xfb\x83\x01\0\x01ab",
             b"\xfb\xc3\x01\x01\0ab\x99",
             b"\xfb\xc3\x01\x01\0\x01ab\x99",
         ],
     ];
-    for [bytes, canonical, canonical_self, kept, kept_self] in table {
+    for [bytes, plain, own] in rows {
         let packet = decode(bytes)?;
-        for (form, want) in [
-            (Form::Canonical, canonical),
-            (Form::CanonicalSelf, canonical_self),
-            (Form::Kept, kept),
-            (Form::KeptSelf, kept_self),
-        ] {
-            let mut out = Vec::new(alloc);
-            write(form, &packet, &mut out)?;
-            assert_eq!(rt; out.as_slice(), want);
-            assert_eq!(rt; size(form, &packet) as usize, want.len());
-            for fail in 0..=want.len() as u64 {
-                // No call fails where `fail` is 0.
-                let mut sink = MemorySink::new(alloc, 1, &[fail])?;
-                let answer = put(form, &packet, &mut sink);
-                assert_eq!(rt; answer.is_ok(), fail == 0);
-                assert!(rt; want.starts_with(sink.contents()));
-                let written = if fail == 0 {
-                    want.len() as u64
-                } else {
-                    fail - 1
-                };
-                assert_eq!(rt; sink.contents().len() as u64, written);
-                let mut sink = MemorySink::new(alloc, 4096, &[fail])?;
-                let answer = put(form, &packet, &mut sink);
-                assert_eq!(rt; answer.is_ok(), sink.contents() == want);
-                assert!(rt; want.starts_with(sink.contents()));
-            }
-        }
+        form_is_written(&rt, rt.alloc(), Form::Kept, &packet, plain)?;
+        form_is_written(&rt, rt.alloc(), Form::KeptSelf, &packet, own)?;
     }
     Ok(())
 }
 
-// Rows: a packet, a size, and the form of that size.
+// Rows: a size, and the form of the packet F8 AA in that size.
 #[test]
-fn a_padded_form_has_each_size(rt: HostRuntime) -> Result<(), Fail> {
-    let alloc = rt.alloc();
-    let table: [(u32, Result<&[u8], PadFault>); 7] = [
+fn a_padded_form_has_its_size(rt: HostRuntime) -> Result<(), Fail> {
+    let rows: [(u32, Result<&[u8], PadFault>); 7] = [
         (1, Err(PadFault::TooSmall)),
         (2, Ok(b"\xf8\xaa")),
         (3, Ok(b"\xfb\x01\xaa")),
@@ -213,11 +209,22 @@ fn a_padded_form_has_each_size(rt: HostRuntime) -> Result<(), Fail> {
         (20000000, Err(PadFault::PadLimit)),
     ];
     let packet = decode(b"\xf8\xaa")?;
-    for (size, want) in table {
-        let mut out = Vec::new(alloc);
+    for (size, want) in rows {
+        let mut out = Vec::new(rt.alloc());
         let answer = write_padded(&packet, size, &mut out);
         assert_eq!(rt; answer.map(|()| out.as_slice()), want);
     }
+    Ok(())
+}
+
+// The form has the packet's frames, and zeros behind them.
+fn is_padded_form(packet: &Packet<'_>, made: &Packet<'_>) -> bool {
+    made.body() == packet.body() && made.lens().eq(packet.lens()) && tail_is_zeros(made)
+}
+
+// Each size up to 300 bytes above the canonical form's.
+#[test]
+fn there_is_a_padded_form_of_each_size(rt: HostRuntime) -> Result<(), Fail> {
     let packets: [&[u8]; 5] = [
         b"\xf8\xaa",
         b"\xf9ab",
@@ -229,22 +236,15 @@ fn a_padded_form_has_each_size(rt: HostRuntime) -> Result<(), Fail> {
         let packet = decode(bytes)?;
         let least = canon_size(&packet);
         for size in 0..=least + 300 {
-            let mut out = Vec::new(alloc);
-            match write_padded(&packet, size, &mut out) {
-                Ok(()) => {
-                    let made = decode(&out)?;
-                    assert!(rt; size == made.size() && least <= size);
-                    let mut frames = packet.frames();
-                    for frame in made.frames() {
-                        assert_eq!(rt; frames.next(), Some(frame));
-                    }
-                    assert_eq!(rt; frames.next(), None);
-                    assert!(rt; tail_is_zeros(&made));
-                }
-                Err(fault) => {
-                    assert_eq!(rt; fault, PadFault::TooSmall);
-                    assert!(rt; size < least && out.is_empty());
-                }
+            let mut out = Vec::new(rt.alloc());
+            let answer = write_padded(&packet, size, &mut out);
+            if size < least {
+                assert_eq!(rt; answer, Err(PadFault::TooSmall));
+                assert!(rt; out.is_empty());
+            } else {
+                assert_eq!(rt; answer, Ok(()));
+                let made = decode(&out)?;
+                assert!(rt; size == made.size() && is_padded_form(&packet, &made));
             }
         }
     }

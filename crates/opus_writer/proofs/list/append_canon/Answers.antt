@@ -1,16 +1,15 @@
 use Rattle.std.proofs.Common.{◌≡◌, ◌<◌, ◌+◌, [], ◌++◌, length, vec_len, vec_capacity, OnOk, OnErr, subst, ap, ◌∙◌, append-nil}
-use Rattle.opus_packet.specs.Canonical.{canonical}
-use Rattle.opus_writer.specs.Forms.{canonical_header}
-use Rattle.opus_writer.proofs.FormLemmas.{canonical-joined}
-use Rattle.opus_writer.proofs.list.write_canon.Goals as goal
+use Rattle.opus_writer.specs.Forms.{canonical_in, canonical_header_in}
+use Rattle.opus_writer.proofs.FormLemmas.{canonical_in-joined}
+use Rattle.opus_writer.proofs.list.append_canon.Goals as goal
 
 spelled : (c : goal.After-append)
-    → (c.as_slice.result.now ++ c.body.result.now) ++ [] ≡ canonical c.args.packet.now.value
+    → (c.as_slice.result.now ++ c.body.result.now) ++ [] ≡ canonical_in c.args.own c.args.packet.now.value
 spelled c =
     let v = c.args.packet.now.value in
     append-nil (c.as_slice.result.now ++ c.body.result.now)
-    ∙ canonical-joined v c.as_slice.result.now c.body.result.now
-    (c.as_slice.ensures.value ∙ c.push_canon_header.ensures.bytes ∙ ap (λ l. l ++ canonical_header v) c.new-header.ensures) c.body.ensures.bytes
+    ∙ canonical_in-joined c.args.own v c.as_slice.result.now c.body.result.now
+    (c.as_slice.ensures.value ∙ c.push_canon_in.ensures.bytes ∙ ap (λ l. l ++ canonical_header_in c.args.own v) c.new-header.ensures) c.body.ensures.bytes
 
 pub returns-clause-ok : goal.returns-clause-ok
 returns-clause-ok c =
