@@ -38,6 +38,10 @@ mapping_size bytes =
 abbrev pub head_size : List ℕ → ℕ
 head_size bytes = if family_in bytes == 0 then 19 else 21 + mapping_size bytes
 
+-- more bytes than any head has up to the end of its table: 21, and 2 * 255 * 227 of the factors of family 3
+abbrev pub past_tables : ℕ
+past_tables = 115792
+
 -- a check that looks at fields in the first bytes, so many: what it finds wrong, if anything
 abbrev pub checked : List ℕ → ℕ → Bool → HeadFault → Option HeadFault
 checked bytes size bad fault =

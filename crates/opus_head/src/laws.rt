@@ -2,7 +2,7 @@
 ghost use Rattle.std.specs.Prelude.{◌≡◌, ◌≤◌, ℕ, List, ◌++◌, length, None};
 ghost use Rattle.opus_head.specs.HeadValue.{HeadValue, AreBytes, IsHead};
 ghost use Rattle.opus_head.specs.HeadBytes.{head_bytes, IsOpusHead};
-ghost use Rattle.opus_head.specs.HeadFault.{head_fault};
+ghost use Rattle.opus_head.specs.HeadFault.{head_fault, past_tables};
 
 /// The same bytes are one head at most.
 pub fn bytes_are_one_head()
@@ -27,9 +27,9 @@ pub fn what_is_written_is_read()
 /// No head's table ends behind byte 115,791: what follows one byte more changes neither the fault nor anything but what
 /// the head keeps of it.
 pub fn what_follows_the_largest_table_changes_nothing()
-    ensures fault { (bytes more : List ℕ) → AreBytes bytes → 115792 ≤ length bytes
+    ensures fault { (bytes more : List ℕ) → AreBytes bytes → past_tables ≤ length bytes
         → head_fault (bytes ++ more) ≡ head_fault bytes }
-    ensures head { (h : HeadValue) (bytes more : List ℕ) → AreBytes bytes → 115792 ≤ length bytes
+    ensures head { (h : HeadValue) (bytes more : List ℕ) → AreBytes bytes → past_tables ≤ length bytes
         → IsOpusHead h (bytes ++ more)
         → (extra : List ℕ) × IsOpusHead (record h { extra = extra }) bytes }
 {}

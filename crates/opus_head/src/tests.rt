@@ -1,5 +1,7 @@
+//! Heads with their answers, faults and routes.
 use crate::{Head, HeadFault, Route, Table, read_head, route, write_head};
 use std::alloc::{AllocError, Global};
+use std::process::Abort;
 use std::test::Fail;
 
 const STEREO: [u8; 19] = *b"OpusHead\x01\x02\x38\x01\x80\xBB\x00\x00\x00\x00\x00";
@@ -74,13 +76,22 @@ fn the_end_is_found(rt: HostRuntime) -> Result<(), Fail> {
     Ok(())
 }
 
-// Channel count, family, what stands behind it, the fault and its place.
+// Channel count, family, what stands behind it, and the fault with its place.
+type Row<'a> = (u8, u8, &'a [u8], Option<(HeadFault, u64)>);
+
+fn faults_are(rt: &impl Abort, alloc: Global, rows: &[Row<'_>]) -> Result<(), Fail> {
+    for (count, family, rest, expected) in rows {
+        let bytes = head(alloc, 1, *count, *family, rest)?;
+        assert_eq!(rt; fault_of(alloc, &bytes), *expected);
+    }
+    Ok(())
+}
+
 #[test]
-fn faults_have_their_places(rt: HostRuntime) -> Result<(), Fail> {
-    let alloc = rt.alloc();
+fn a_family_takes_some_channel_counts(rt: HostRuntime) -> Result<(), Fail> {
     let channels = Some((HeadFault::Channels, 9));
-    let cut = |size| Some((HeadFault::Cut(size), size));
-    let rows: [(u8, u8, &[u8], Option<(HeadFault, u64)>); 22] = [
+    let cut = Some((HeadFault::Cut(22), 22));
+    let rows: [Row<'_>; 9] = [
         (0, 0, &[], channels),
         (3, 0, &[], channels),
         (8, 1, &[8, 0, 0, 1, 2, 3, 4, 5, 6, 7], None),
@@ -88,8 +99,17 @@ fn faults_have_their_places(rt: HostRuntime) -> Result<(), Fail> {
         (2, 2, &[], channels),
         (5, 2, &[], channels),
         (4, 2, &[4, 0, 0, 1, 2, 3], None),
-        (227, 3, &[1, 0, 9], cut(22)),
+        (227, 3, &[1, 0, 9], cut),
         (228, 3, &[1, 0], channels),
+    ];
+    faults_are(&rt, rt.alloc(), &rows)
+}
+
+#[test]
+fn faults_behind_the_family_have_their_places(rt: HostRuntime) -> Result<(), Fail> {
+    let cut = |size| Some((HeadFault::Cut(size), size));
+    let map_byte = Some((HeadFault::MapByte(5), 26));
+    let rows: [Row<'_>; 13] = [
         (1, 255, &[], cut(19)),
         (1, 255, &[0], Some((HeadFault::Streams, 19))),
         (1, 255, &[1], cut(20)),
@@ -98,26 +118,19 @@ fn faults_have_their_places(rt: HostRuntime) -> Result<(), Fail> {
         (1, 255, &[128, 128], Some((HeadFault::Coupled, 20))),
         (1, 255, &[128, 127, 254], None),
         (6, 1, &[4, 2, 0, 4, 1, 2, 3, 5], None),
-        (
-            6,
-            1,
-            &[4, 2, 0, 4, 1, 2, 3, 6],
-            Some((HeadFault::MapByte(5), 26)),
-        ),
+        (6, 1, &[4, 2, 0, 4, 1, 2, 3, 6], map_byte),
         (6, 1, &[4, 2, 0, 4, 1, 2, 3, 255], None),
         (1, 3, &[1, 0, 0xFF, 0x7F], None),
         (1, 3, &[1, 0, 0xFF, 0x7F, 0], Some((HeadFault::Extra, 23))),
         (1, 200, &[1, 0, 0, 0], Some((HeadFault::Extra, 22))),
     ];
-    for (count, family, rest, expected) in rows {
-        let bytes = head(alloc, 1, count, family, rest)?;
-        assert_eq!(rt; fault_of(alloc, &bytes), expected);
-    }
-    assert_eq!(rt;
-        fault_of(alloc, b"OpusTags"),
-        Some((HeadFault::Magic(4), 4))
-    );
-    Ok(())
+    faults_are(&rt, rt.alloc(), &rows)
+}
+
+#[test]
+fn a_wrong_magic_has_its_place(rt: HostRuntime) {
+    let magic = Some((HeadFault::Magic(4), 4));
+    assert_eq!(rt; fault_of(rt.alloc(), b"OpusTags"), magic);
 }
 
 // The route of each channel.

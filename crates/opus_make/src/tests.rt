@@ -1,3 +1,4 @@
+//! What some seeds make.
 use crate::{Made, Maker};
 use std::test::Fail;
 
