@@ -1,5 +1,5 @@
 -- A header's bytes, and what follows them in a piece.
-use Rattle.std.proofs.Common.{◌≡◌, ℕ, ◌+◌, ◌≤◌, List, [], ◌++◌, length, take, drop, vec_len, refl, sym, ap, ◌∙◌, subst, arith, append_assoc, length-append, take-append-drop, take_all}
+use Rattle.std.proofs.Common.{◌≡◌, ℕ, ◌+◌, ◌-◌, ◌≤◌, List, [], ◌++◌, length, take, drop, vec_len, refl, sym, ap, ◌∙◌, subst, arith, append_assoc, length-append, take-append-drop, take_all}
 use Rattle.std.proofs.lemmas.List.{append-nil, length-take-le, length-replicate}
 use Rattle.opus_flen.specs.PaddingLength.{most_full}
 use Rattle.opus_packet.specs.declared.fault.Rule.{Rule}
@@ -8,8 +8,9 @@ use Rattle.opus_packet.specs.PacketFault.{fault}
 use Rattle.opus_packet.specs.HeaderRead.{refused, header_read}
 use Rattle.opus_feed.specs.Stage.{IsOpen}
 use Rattle.opus_feed.specs.Heads.{IsSound, spelling}
-use Rattle.opus_feed.specs.Bodies.{memory_of, Fills, StandsBehind}
-use Rattle.opus_feed.specs.Places.{IsFilling, IsSteady}
+use Rattle.opus_feed.specs.Bodies.{Fills, StandsBehind}
+use Rattle.opus_feed.specs.Holding.{held_of}
+use Rattle.opus_feed.specs.Places.{IsOpening, IsFilling, IsSteady}
 use Rattle.opus_feed.specs.Packets.{Refuses}
 use Rattle.opus_feed.specs.Stands.{Takes, StandsAt}
 use Rattle.opus_feed.specs.declared.framing.Framing.{Framing}
@@ -22,7 +23,8 @@ use Rattle.opus_feed.specs.declared.place.Place.{Place}
 use Rattle.opus_feed.specs.declared.place.Place.TheVariants.{Failed}
 use Rattle.opus_feed.proofs.OpenLemmas.{bad_count_refused, bad_padding_refused}
 use Rattle.opus_feed.proofs.RefuseLemmas.{refused_header}
-use Rattle.opus_feed.proofs.FillLemmas.{stands_behind}
+use Rattle.opus_feed.proofs.FillLemmas.{filled, stands_behind}
+use Rattle.opus_feed.proofs.HoldingLemmas.{held_behind, held_refused}
 use Rattle.opus_feed.proofs.SmallLemmas.{sound_small}
 
 -- how many bytes of the header came
@@ -78,33 +80,19 @@ opened_stands framing padding old h k piece rest used before after came place sp
     subst (StandsAt framing place k after) all
     (stands_behind framing padding k before after rest came place front is f at first)
 
--- the count byte can't stand
-pub bad_count_stands : (framing : Framing) (old : Stage) (h k : Head) (piece : List ℕ) (used front : ℕ)
-    → spelling framing BadCount k ≡ spelling framing old h ++ take used piece → IsSound framing BadCount k
-    → front + 1 ≡ length (spelling framing BadCount k)
-    → (bytes : List ℕ) → bytes ≡ spelling framing old h
-    → (more : List ℕ) → Refuses framing (fault R5 front) (bytes ++ piece ++ more)
-bad_count_stands framing old h k piece used front spelled sound size bytes are more =
-    let all = ap (λ bs. bs ++ more) (parts framing old BadCount h k piece bytes used spelled are) in
-    let place : 1 ≡ front = omega arith in
-    let read : header_read (bytes ++ piece ++ more) ≡ refused R5 front =
-    ap header_read all ∙ bad_count_refused k sound.2 sound.3 (drop used piece ++ more) ∙ ap (refused R5) place in
-    refused_header framing (bytes ++ piece ++ more) R5 front read
-
--- the padding length goes past its limit
-pub bad_padding_stands : (framing : Framing) (old : Stage) (h k : Head) (piece : List ℕ) (used front : ℕ)
-    → spelling framing BadPadding k ≡ spelling framing old h ++ take used piece → IsSound framing BadPadding k
-    → front + 1 ≡ length (spelling framing BadPadding k)
-    → (bytes : List ℕ) → bytes ≡ spelling framing old h
-    → (more : List ℕ) → Refuses framing (fault PadLimit front) (bytes ++ piece ++ more)
-bad_padding_stands framing old h k piece used front spelled sound size bytes are more =
-    let full = length-replicate {A = ℕ} (most_full + 1) 255 in
-    let all = ap (λ bs. bs ++ more) (parts framing old BadPadding h k piece bytes used spelled are) in
-    let place : most_full + 2 ≡ front = omega arith in
-    let read : header_read (bytes ++ piece ++ more) ≡ refused PadLimit front =
-    ap header_read (all ∙ append_assoc (spelling framing BadPadding k) (drop used piece) more)
-    ∙ bad_padding_refused k sound (drop used piece ++ more) ∙ ap (refused PadLimit) place in
-    refused_header framing (bytes ++ piece ++ more) PadLimit front read
+-- and what is kept of it
+pub opened_held : (framing : Framing) (padding : Padding) (old : Stage) (h k : Head) (piece rest : List ℕ) (used : ℕ)
+    (before after : Body) (came : ℕ)
+    → spelling framing Ready k ≡ spelling framing old h ++ take used piece → rest ≡ drop used piece
+    → before.came ≡ 0 → IsFilling framing padding k before → Fills before rest came after
+    → (bytes : List ℕ) → bytes ≡ spelling framing old h → after.kept ≡ held_of framing padding (bytes ++ piece)
+opened_held framing padding old h k piece rest used before after came spelled rest_is none is f bytes are =
+    let came_is = f.came_is in
+    let used_is = f.used_is in
+    let limit_is = f.limit_is in
+    held_behind framing padding k after (bytes ++ piece) rest (filled is f)
+    (parts framing old Ready h k piece bytes used spelled are ∙ ap (λ bs. spelling framing Ready k ++ bs) (sym rest_is))
+    (omega arith)
 
 -- a stage that is none of these is open
 pub open_from : (stage : Stage) → (stage ≡ Ready → ⊥) → (stage ≡ BadCount → ⊥) → (stage ≡ BadPadding → ⊥)
@@ -128,29 +116,80 @@ opened_all framing old new h k piece used spelled all bytes are =
     ap (λ bs. bs ++ piece) are ∙ ap (λ bs. spelling framing old h ++ bs) (sym (take_all used piece (omega arith)))
     ∙ sym spelled
 
--- a feed that has failed in the header
-pub refused_steady : (framing : Framing) (padding : Padding) (h : Head) (place : Place) (rule : Rule) (b new : Body)
-    (front : ℕ) → place ≡ Failed rule → new ≡ record b { front = front } → front ≤ 65891
-    → b.came ≡ 0 → b.kept ≡ 0 → vec_len b.bytes ≡ memory_of padding → IsSteady framing padding place h new
-refused_steady framing padding h place rule b new front there same small none none_kept memory =
-    let front_is : new.front ≡ front = ap (λ (x : Body). x.front) same in
-    let came_is : new.came ≡ b.came = ap (λ (x : Body). x.came) same in
-    let kept_is : new.kept ≡ b.kept = ap (λ (x : Body). x.kept) same in
-    let bytes_are : vec_len new.bytes ≡ vec_len b.bytes = ap (λ (x : Body). vec_len x.bytes) same in
-    subst (λ p. IsSteady framing padding p h new) (sym there)
-    (record {
-      small = omega arith;
-      came_small = omega arith;
-      fits = omega arith;
-      memory = bytes_are ∙ memory;
-    })
+-- ---- a header that can't stand
 
-pub refused_stands : (framing : Framing) (h : Head) (place : Place) (rule : Rule) (b new : Body)
-    (front : ℕ) (bytes : List ℕ) → place ≡ Failed rule → new ≡ record b { front = front } → b.came ≡ 0
-    → ((more : List ℕ) → Refuses framing (fault rule front) (bytes ++ more)) → StandsAt framing place h new bytes
-refused_stands framing h place rule b new front bytes there same none refuses =
-    let front_is : new.front ≡ front = ap (λ (x : Body). x.front) same in
-    let came_is : new.came ≡ b.came = ap (λ (x : Body). x.came) same in
-    let place_is : front ≡ new.front + new.came = omega arith in
-    subst (λ p. StandsAt framing p h new bytes) (sym there)
-    (λ more are. subst (λ n. Refuses framing (fault rule n) (bytes ++ more)) place_is (refuses more))
+-- the rule that the last byte of it breaks
+abbrev pub Breaks : Stage → Rule → Type 0
+Breaks Toc rule = ⊥
+Breaks Count rule = ⊥
+Breaks PadLength rule = ⊥
+Breaks Length rule = ⊥
+Breaks LengthEnd rule = ⊥
+Breaks Last rule = ⊥
+Breaks LastEnd rule = ⊥
+Breaks Ready rule = ⊥
+Breaks BadCount rule = rule ≡ R5
+Breaks BadPadding rule = rule ≡ PadLimit
+
+broken_read : (framing : Framing) (stage : Stage) (h : Head) (rule : Rule) (size : ℕ) → Breaks stage rule
+    → IsSound framing stage h → size ≡ length (spelling framing stage h) → (more : List ℕ)
+    → header_read (spelling framing stage h ++ more) ≡ refused rule (size - 1)
+broken_read framing Toc h rule size breaks sound is more = absurd breaks
+broken_read framing Count h rule size breaks sound is more = absurd breaks
+broken_read framing PadLength h rule size breaks sound is more = absurd breaks
+broken_read framing Length h rule size breaks sound is more = absurd breaks
+broken_read framing LengthEnd h rule size breaks sound is more = absurd breaks
+broken_read framing Last h rule size breaks sound is more = absurd breaks
+broken_read framing LastEnd h rule size breaks sound is more = absurd breaks
+broken_read framing Ready h rule size breaks sound is more = absurd breaks
+broken_read framing BadCount h rule size breaks sound is more =
+    let place : 1 ≡ size - 1 = omega arith in
+    bad_count_refused h sound.2 sound.3 more ∙ ap (λ r. refused r 1) (sym breaks) ∙ ap (refused rule) place
+broken_read framing BadPadding h rule size breaks sound is more =
+    let full = length-replicate {A = ℕ} (most_full + 1) 255 in
+    let place : most_full + 2 ≡ size - 1 = omega arith in
+    bad_padding_refused h sound more ∙ ap (λ r. refused r (most_full + 2)) (sym breaks) ∙ ap (refused rule) place
+
+-- the place and the body of a feed that failed in the header
+pub record HasBroken (framing : Framing) (padding : Padding) (first : List ℕ) (h : Head) (b : Body) (place : Place)
+    (piece : List ℕ) : Type 0 where
+  pub steady : IsSteady framing padding place h b
+  pub stands : (bytes : List ℕ) → bytes ≡ first → StandsAt framing place h b (bytes ++ piece)
+  pub held : (bytes : List ℕ) → bytes ≡ first → b.kept ≡ held_of framing padding (bytes ++ piece)
+
+pub broken : (framing : Framing) (padding : Padding) (old new : Stage) (h k : Head) (piece : List ℕ) (used : ℕ)
+    (rule : Rule) (b after : Body) (place : Place) → Breaks new rule → IsOpening framing padding old h b
+    → used ≤ length piece → spelling framing new k ≡ spelling framing old h ++ take used piece
+    → IsSound framing new k → place ≡ Failed rule
+    → after ≡ record b { front = b.front + used - 1 }
+    → HasBroken framing padding (spelling framing old h) k after place piece
+broken framing padding old new h k piece used rule b after place breaks is within spelled sound there same =
+    let size = opened_front framing old new h k piece b.front used is.front_is within spelled in
+    let small = opened_small framing old new h k piece b.front used is.front_is within spelled sound in
+    let front_is : after.front ≡ b.front + used - 1 = ap (λ (x : Body). x.front) same in
+    let came_is : after.came ≡ 0 = ap (λ (x : Body). x.came) same ∙ is.none in
+    let kept_is : after.kept ≡ 0 = ap (λ (x : Body). x.kept) same ∙ is.none_kept in
+    let bytes_are : vec_len after.bytes ≡ vec_len b.bytes = ap (λ (x : Body). vec_len x.bytes) same in
+    let at : b.front + used - 1 ≡ after.front + after.came = omega arith in
+    let read : (bytes : List ℕ) → bytes ≡ spelling framing old h → (more : List ℕ)
+        → header_read (bytes ++ piece ++ more) ≡ refused rule (b.front + used - 1) =
+    λ bytes are more.
+    ap (λ bs. header_read (bs ++ more)) (parts framing old new h k piece bytes used spelled are)
+    ∙ ap header_read (append_assoc (spelling framing new k) (drop used piece) more)
+    ∙ broken_read framing new k rule (b.front + used) breaks sound size (drop used piece ++ more) in
+    record {
+      steady = subst (λ p. IsSteady framing padding p k after) (sym there)
+          (record {
+            small = omega arith;
+            came_small = omega arith;
+            fits = omega arith;
+            memory = bytes_are ∙ is.memory;
+          });
+      stands = λ bytes are.
+          subst (λ p. StandsAt framing p k after (bytes ++ piece)) (sym there)
+          (λ more all. subst (λ n. Refuses framing (fault rule n) (bytes ++ piece ++ more)) at
+          (refused_header framing (bytes ++ piece ++ more) rule (b.front + used - 1) (read bytes are more)));
+      held = λ bytes are.
+          kept_is ∙ sym (held_refused framing padding (bytes ++ piece) rule (b.front + used - 1)
+          (ap header_read (sym (append-nil (bytes ++ piece))) ∙ read bytes are []));
+    }

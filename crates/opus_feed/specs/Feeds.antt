@@ -2,6 +2,7 @@
 use Rattle.std.specs.Prelude.{◌≡◌, ℕ, ◌≤◌, List, Result, Ok, Err, ⊤}
 use Rattle.opus_packet.specs.PacketPrefix.{AreBytes}
 use Rattle.opus_packet.specs.declared.fault.Fault.{Fault}
+use Rattle.opus_feed.specs.Holding.{held_of}
 use Rattle.opus_feed.specs.Stands.{StandsAt, EndsAt, fault_at}
 use Rattle.opus_feed.specs.Steps.{IsReading, IsWhole}
 use Rattle.opus_feed.specs.declared.feed.Feed.{Feed}
@@ -14,11 +15,13 @@ use Rattle.opus_feed.specs.declared.step.Step.TheVariants.{More, Done, Refused}
 pub record Stands (feed : Feed) (bytes : List ℕ) : Type 0 where
   pub are_bytes : AreBytes bytes
   pub at : StandsAt feed.framing feed.place feed.head feed.body bytes
+  pub held : feed.body.kept ≡ held_of feed.framing feed.padding bytes
 
 -- these bytes came since the last reset and before the first `finish`
 pub record Ended (feed : Feed) (bytes : List ℕ) : Type 0 where
   pub are_bytes : AreBytes bytes
   pub at : EndsAt feed.framing feed.place feed.head feed.body bytes
+  pub held : feed.body.kept ≡ held_of feed.framing feed.padding bytes
 
 -- no packet can follow, and the fault is this
 abbrev pub HasFailed : Fault → Feed → Type 0

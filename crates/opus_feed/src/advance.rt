@@ -2,6 +2,7 @@
 ghost use Rattle.std.specs.Prelude.{◌≡◌, ℕ, ◌+◌, ◌-◌, ◌≤◌, List, ◌++◌, length, vec_len, min};
 ghost use Rattle.opus_packet.specs.PacketPrefix.{AreBytes};
 ghost use Rattle.opus_feed.specs.Bodies.{Fills, StandsBehind};
+ghost use Rattle.opus_feed.specs.Holding.{held_of};
 ghost use Rattle.opus_feed.specs.Places.{IsOpening, IsSteady};
 ghost use Rattle.opus_feed.specs.Stands.{StandsAt};
 ghost use Rattle.opus_feed.specs.Steps.{IsReading, IsWhole};
@@ -32,6 +33,9 @@ pub(crate) fn advance(
     ensures stands { (bytes : List ℕ) → AreBytes (bytes ++ piece.now)
         → StandsAt framing place head.old body.old bytes
         → StandsAt framing result.place head.new body.new (bytes ++ piece.now) }
+    ensures held { (bytes : List ℕ) → AreBytes (bytes ++ piece.now)
+        → StandsAt framing place head.old body.old bytes → body.old.kept ≡ held_of framing padding bytes
+        → body.new.kept ≡ held_of framing padding (bytes ++ piece.now) }
     ensures moved { IsReading place → IsWhole result.place
         → body.new.front + body.new.came ≡ body.old.front + body.old.came + result.used }
     ensures within { result.used ≤ length piece.now }
@@ -59,6 +63,9 @@ fn open(
     ensures stands { (bytes : List ℕ) → AreBytes (bytes ++ piece.now)
         → StandsAt framing (Opening stage) head.old body.old bytes
         → StandsAt framing result.place head.new body.new (bytes ++ piece.now) }
+    ensures held { (bytes : List ℕ) → AreBytes (bytes ++ piece.now)
+        → StandsAt framing (Opening stage) head.old body.old bytes
+        → body.new.kept ≡ held_of framing padding (bytes ++ piece.now) }
     ensures moved { IsWhole result.place
         → body.new.front + body.new.came ≡ body.old.front + body.old.came + result.used }
     ensures within { result.used ≤ length piece.now }

@@ -1,5 +1,5 @@
 //! The bytes behind a header: frames, and padding bytes behind them.
-ghost use Rattle.std.specs.Prelude.{◌≡◌, ℕ, ◌+◌, ◌-◌, ◌^◌, ◌<◌, ◌≤◌, ◌++◌, length, take, min, vec_len, IfOk};
+ghost use Rattle.std.specs.Prelude.{◌≡◌, ℕ, ◌+◌, ◌-◌, ◌^◌, ◌<◌, ◌≤◌, ◌++◌, length, take, min, vec_len, vec_capacity, IfOk};
 ghost use Rattle.opus_feed.specs.Bodies.{memory_of, kept_tail, IsStarted, Fills};
 
 use crate::padding::Padding;
@@ -33,14 +33,17 @@ impl Body {
     /// Takes all memory that frames and kept padding bytes need.
     pub fn new(alloc: Global, padding: Padding) -> Result<Body, NoMemory>
         ensures memory { IfOk result (λ b. vec_len b.bytes ≡ memory_of padding) }
+        ensures exact { IfOk result (λ b. vec_capacity b.bytes ≡ memory_of padding) }
         ensures none { IfOk result (λ b. (b.kept ≡ 0) × (b.came ≡ 0) × (b.front ≡ 0)) }
     {
         let size = match padding {
             Padding::Drop => FRAME_BYTES,
             Padding::Keep => FRAME_AND_TAIL_BYTES,
         };
-        let mut bytes = Vec::new(alloc);
-        bytes.resize(size, 0)?;
+        let mut bytes = Vec::with_capacity(alloc, size)?;
+        'room: for _ in 0..size {
+            bytes.push_reserved(0);
+        }
         Ok(Body {
             bytes,
             kept: 0,

@@ -210,7 +210,9 @@ impl Feed {
     /// Bytes that are kept: frames, and with `Keep` padding behind them.
     pub fn held(&self) -> usize
         ensures kept { result ≡ self.now.body.kept }
-        ensures reading { (bytes : List ℕ) → Stands self.now bytes → IsReading self.now.place
+        ensures stands { (bytes : List ℕ) → Stands self.now bytes
+            → result ≡ held_of self.now.framing self.now.padding bytes }
+        ensures ended { (bytes : List ℕ) → Ended self.now bytes
             → result ≡ held_of self.now.framing self.now.padding bytes }
         ensures most { result ≤ memory_of self.now.padding }
     {

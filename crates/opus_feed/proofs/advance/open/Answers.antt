@@ -1,11 +1,13 @@
-use Rattle.std.proofs.Common.{◌≡◌, ◌+◌, ◌-◌, ◌++◌, length, take, vec_len, arith, subst, ap, ◌∙◌}
+use Rattle.std.proofs.Common.{◌≡◌, ◌++◌, length, take, vec_len, refl, sym, arith, subst, ap, ◌∙◌}
 use Rattle.std.proofs.lemmas.List.{take_rest}
 use Rattle.opus_packet.specs.Header.{Header, body_size}
 use Rattle.opus_feed.specs.Heads.{IsSound, spelling}
-use Rattle.opus_feed.specs.Places.{IsFilling}
-use Rattle.opus_feed.specs.declared.stage.Stage.TheVariants.{BadCount, BadPadding}
+use Rattle.opus_feed.specs.Places.{IsOpening, IsFilling}
+use Rattle.opus_feed.specs.Steps.{IsWhole}
+use Rattle.opus_packet.specs.declared.fault.Rule.TheVariants.{R5, PadLimit}
 use Rattle.opus_feed.proofs.FillLemmas.{begun, filled, steady_behind}
-use Rattle.opus_feed.proofs.OpenedLemmas.{opened_front, opened_small, opened_stands, opened_all, open_from, refused_steady, refused_stands, bad_count_stands, bad_padding_stands}
+use Rattle.opus_feed.proofs.HoldingLemmas.{held_opening}
+use Rattle.opus_feed.proofs.OpenedLemmas.{opened_front, opened_small, opened_stands, opened_held, opened_all, open_from, Breaks, broken}
 use Rattle.opus_feed.proofs.advance.open.Goals as goal
 
 pub fill-moved-requires-clause-front : goal.fill-moved-requires-clause-front
@@ -54,53 +56,48 @@ returns-in-Ready-clause-stands c =
     (others.came_is ∙ c.requires.none) (others.kept_is ∙ c.requires.none_kept) (started c)
     f.ensures.fills f.ensures.place bytes are
 
-pub returns-in-BadCount-clause-steady : goal.returns-in-BadCount-clause-steady
-returns-in-BadCount-clause-steady c =
+pub returns-in-Ready-clause-held : goal.returns-in-Ready-clause-held
+returns-in-Ready-clause-held c =
+    let a = c.args in
+    let t = c.take-taken in
+    let f = c.fill-moved in
+    let spelled = subst (λ s. spelling a.framing s t.new.self ≡ spelling a.framing a.stage a.head.now ++ take t.result.used a.piece.now) c.in-Ready.is t.ensures.spelled in
+    λ bytes are_bytes are.
+    opened_held a.framing a.padding a.stage a.head.now t.new.self a.piece.now _ t.result.used c.start.new.self f.new.body
+    f.result.used spelled (take_rest a.piece.now t.result.used) (c.start.ensures.others.came_is ∙ c.requires.none)
+    (started c) f.ensures.fills bytes are
+
+pub returns-in-BadCount : goal.returns-in-BadCount
+returns-in-BadCount c =
     let a = c.args in
     let t = c.take-taken in
     let r = c.refuse in
-    let small = opened_small a.framing a.stage t.result.stage a.head.now t.new.self a.piece.now a.body.now.front t.result.used
-    c.requires.front_is t.ensures.within t.ensures.spelled t.ensures.sound in
-    refused_steady a.framing a.padding t.new.self r.result.place _ a.body.now r.new.body (a.body.now.front + t.result.used - 1) r.ensures.place r.ensures.front
-    (omega arith) c.requires.none c.requires.none_kept c.requires.memory
+    let has = broken a.framing a.padding a.stage t.result.stage a.head.now t.new.self a.piece.now t.result.used R5
+    a.body.now r.new.body r.result.place (subst (λ s. Breaks s R5) (sym c.in-BadCount.is) refl) c.requires
+    t.ensures.within t.ensures.spelled t.ensures.sound r.ensures.place r.ensures.front in
+    record {
+      steady = has.steady;
+      stands = λ bytes are_bytes are. has.stands bytes are;
+      held = λ bytes are_bytes are. has.held bytes are;
+      moved = λ is. absurd (subst IsWhole r.ensures.place is);
+      within = omega (arith, t.ensures.within, r.ensures.used);
+    }
 
-pub returns-in-BadCount-clause-stands : goal.returns-in-BadCount-clause-stands
-returns-in-BadCount-clause-stands c =
-    let a = c.args in
-    let t = c.take-taken in
-    let r = c.refuse in
-    let spelled = subst (λ s. spelling a.framing s t.new.self ≡ spelling a.framing a.stage a.head.now ++ take t.result.used a.piece.now) c.in-BadCount.is t.ensures.spelled in
-    let sound = subst (λ s. IsSound a.framing s t.new.self) c.in-BadCount.is t.ensures.sound in
-    let size = opened_front a.framing a.stage BadCount a.head.now t.new.self a.piece.now a.body.now.front t.result.used
-    c.requires.front_is t.ensures.within spelled in
-    λ bytes are_bytes are.
-    refused_stands a.framing t.new.self r.result.place _ a.body.now r.new.body (a.body.now.front + t.result.used - 1) (bytes ++ a.piece.now) r.ensures.place r.ensures.front
-    c.requires.none
-    (bad_count_stands a.framing a.stage a.head.now t.new.self a.piece.now t.result.used (a.body.now.front + t.result.used - 1) spelled sound (omega arith) bytes are)
-
-pub returns-in-BadPadding-clause-steady : goal.returns-in-BadPadding-clause-steady
-returns-in-BadPadding-clause-steady c =
+pub returns-in-BadPadding : goal.returns-in-BadPadding
+returns-in-BadPadding c =
     let a = c.args in
     let t = c.take-taken in
     let r = c.refuse-in-BadPadding in
-    let small = opened_small a.framing a.stage t.result.stage a.head.now t.new.self a.piece.now a.body.now.front t.result.used
-    c.requires.front_is t.ensures.within t.ensures.spelled t.ensures.sound in
-    refused_steady a.framing a.padding t.new.self r.result.place _ a.body.now r.new.body (a.body.now.front + t.result.used - 1) r.ensures.place r.ensures.front
-    (omega arith) c.requires.none c.requires.none_kept c.requires.memory
-
-pub returns-in-BadPadding-clause-stands : goal.returns-in-BadPadding-clause-stands
-returns-in-BadPadding-clause-stands c =
-    let a = c.args in
-    let t = c.take-taken in
-    let r = c.refuse-in-BadPadding in
-    let spelled = subst (λ s. spelling a.framing s t.new.self ≡ spelling a.framing a.stage a.head.now ++ take t.result.used a.piece.now) c.in-BadPadding.is t.ensures.spelled in
-    let sound = subst (λ s. IsSound a.framing s t.new.self) c.in-BadPadding.is t.ensures.sound in
-    let size = opened_front a.framing a.stage BadPadding a.head.now t.new.self a.piece.now a.body.now.front t.result.used
-    c.requires.front_is t.ensures.within spelled in
-    λ bytes are_bytes are.
-    refused_stands a.framing t.new.self r.result.place _ a.body.now r.new.body (a.body.now.front + t.result.used - 1) (bytes ++ a.piece.now) r.ensures.place r.ensures.front
-    c.requires.none
-    (bad_padding_stands a.framing a.stage a.head.now t.new.self a.piece.now t.result.used (a.body.now.front + t.result.used - 1) spelled sound (omega arith) bytes are)
+    let has = broken a.framing a.padding a.stage t.result.stage a.head.now t.new.self a.piece.now t.result.used PadLimit
+    a.body.now r.new.body r.result.place (subst (λ s. Breaks s PadLimit) (sym c.in-BadPadding.is) refl) c.requires
+    t.ensures.within t.ensures.spelled t.ensures.sound r.ensures.place r.ensures.front in
+    record {
+      steady = has.steady;
+      stands = λ bytes are_bytes are. has.stands bytes are;
+      held = λ bytes are_bytes are. has.held bytes are;
+      moved = λ is. absurd (subst IsWhole r.ensures.place is);
+      within = omega (arith, t.ensures.within, r.ensures.used);
+    }
 
 pub returns-in_default : goal.returns-in_default
 returns-in_default c =
@@ -111,19 +108,24 @@ returns-in_default c =
     c.requires.front_is t.ensures.within t.ensures.spelled in
     let small = opened_small a.framing a.stage t.result.stage a.head.now t.new.self a.piece.now a.body.now.front t.result.used
     c.requires.front_is t.ensures.within t.ensures.spelled t.ensures.sound in
+    let opening : IsOpening a.framing a.padding t.result.stage t.new.self _ = record {
+      open_is = open_is;
+      sound = t.ensures.sound;
+      front_is = front;
+      small = small;
+      none = c.requires.none;
+      none_kept = c.requires.none_kept;
+      memory = c.requires.memory;
+    } in
     record {
-      steady = record {
-        open_is = open_is;
-        sound = t.ensures.sound;
-        front_is = front;
-        small = small;
-        none = c.requires.none;
-        none_kept = c.requires.none_kept;
-        memory = c.requires.memory;
-      };
+      steady = opening;
       stands = λ bytes are_bytes are.
           opened_all a.framing a.stage t.result.stage a.head.now t.new.self a.piece.now t.result.used
           t.ensures.spelled (t.ensures.all open_is) bytes are;
+      held = λ bytes are_bytes are.
+          held_opening a.framing a.padding t.result.stage t.new.self _ (bytes ++ a.piece.now) opening are_bytes
+          (opened_all a.framing a.stage t.result.stage a.head.now t.new.self a.piece.now t.result.used
+          t.ensures.spelled (t.ensures.all open_is) bytes are);
       moved = omega arith;
       within = t.ensures.within;
     }

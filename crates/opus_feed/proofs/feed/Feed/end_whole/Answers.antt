@@ -16,6 +16,7 @@ returns-in-Some-clause-ended c =
     record {
       are_bytes = s.are_bytes;
       at = some_ends f.framing f.head f.body bytes c.in-Some.last c.requires.framing at;
+      held = s.held;
     }
 
 pub returns-in-None-clause-ended : goal.returns-in-None-clause-ended
@@ -31,4 +32,5 @@ returns-in-None-clause-ended c =
           (none_ends f.framing f.padding f.head f.body bytes c.requires.framing steady.0 at
           (λ n e. c.in-None.ensures n (e ∙ ap (λ (h : Header). body_size h.sizes n + padding_data f.head.shape.pad) (sym header.value)
           ∙ ap (λ t. body_size (sizes_value c.header.result.sizes) n + t) (sym header.tail))));
+      held = s.held;
     }
