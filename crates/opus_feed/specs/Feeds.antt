@@ -1,5 +1,5 @@
 -- What a feed stands for, and that nothing changes any more.
-use Rattle.std.specs.Prelude.{◌≡◌, ℕ, ◌≤◌, List, Result, Ok, Err, ⊤}
+use Rattle.std.specs.Prelude.{◌≡◌, ℕ, ◌≤◌, List, Result, Ok, Err, ⊤, vec_capacity}
 use Rattle.opus_packet.specs.PacketPrefix.{AreBytes}
 use Rattle.opus_packet.specs.declared.fault.Fault.{Fault}
 use Rattle.opus_feed.specs.Holding.{held_of}
@@ -22,6 +22,10 @@ pub record Ended (feed : Feed) (bytes : List ℕ) : Type 0 where
   pub are_bytes : AreBytes bytes
   pub at : EndsAt feed.framing feed.place feed.head feed.body bytes
   pub held : feed.body.kept ≡ held_of feed.framing feed.padding bytes
+
+-- the bytes of memory that a feed has for what it keeps
+abbrev pub room_in : Feed → ℕ
+room_in feed = vec_capacity feed.body.bytes
 
 -- no packet can follow, and the fault is this
 abbrev pub HasFailed : Fault → Feed → Type 0

@@ -32,7 +32,7 @@ impl Feed {
     ghost use Rattle.opus_feed.specs.Holding.{held_of};
     ghost use Rattle.opus_feed.specs.Stands.{fault_at};
     ghost use Rattle.opus_feed.specs.Steps.{IsReading, IsWhole, IsOver, step_at};
-    ghost use Rattle.opus_feed.specs.Feeds.{Stands, Ended, Again, Tells, AgainEnd, TellsEnd, StaysOver};
+    ghost use Rattle.opus_feed.specs.Feeds.{room_in, Stands, Ended, Again, Tells, AgainEnd, TellsEnd, StaysOver};
     ghost use Rattle.opus_feed.specs.declared.framing.Framing.TheVariants.{Whole};
     ghost use Rattle.opus_feed.specs.declared.place.Place.TheVariants.{Filling};
     ghost use Rattle.opus_feed.specs.Answers.{Answers, Ends, Finishes, IsRead, IsLongest};
@@ -43,6 +43,7 @@ impl Feed {
         ensures reading { IfOk result (λ f. IsReading f.place) }
         ensures framing { IfOk result (λ f. f.framing ≡ framing) }
         ensures padding { IfOk result (λ f. f.padding ≡ padding) }
+        ensures room { IfOk result (λ f. room_in f ≡ memory_of padding) }
     {
         Ok(Feed {
             framing,
