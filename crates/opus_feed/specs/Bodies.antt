@@ -1,5 +1,5 @@
 -- What comes behind a header, and what is kept of it.
-use Rattle.std.specs.Prelude.{◌≡◌, ℕ, ◌+◌, ◌-◌, ◌<◌, nat_le, if◌then◌else◌, List, ◌++◌, length, take, min, vec_len}
+use Rattle.std.specs.Prelude.{◌≡◌, ℕ, ◌+◌, ◌-◌, ◌<◌, nat_le, if◌then◌else◌, List, ◌++◌, length, take, min, vec_len, vec_capacity}
 use Rattle.opus_packet.specs.declared.fault.Rule.TheVariants.{R2}
 use Rattle.opus_packet.specs.Header.{Header, body_size, padding_data}
 use Rattle.opus_feed.specs.declared.framing.Framing.{Framing}
@@ -42,6 +42,7 @@ pub record Fills (old : Body) (piece : List ℕ) (used : ℕ) (new : Body) : Typ
   pub kept_is : new.kept ≡ min new.room new.came
   pub bytes_are : take new.kept new.bytes.items ≡ take old.kept old.bytes.items ++ take (new.kept - old.kept) piece
   pub memory : vec_len new.bytes ≡ vec_len old.bytes
+  pub capacity : vec_capacity new.bytes ≡ vec_capacity old.bytes
   pub front_is : new.front ≡ old.front
   pub limit_is : new.limit ≡ old.limit
   pub room_is : new.room ≡ old.room

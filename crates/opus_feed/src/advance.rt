@@ -1,5 +1,5 @@
 //! How a feed moves on over a piece.
-ghost use Rattle.std.specs.Prelude.{◌≡◌, ℕ, ◌+◌, ◌-◌, ◌≤◌, List, ◌++◌, length, vec_len, min};
+ghost use Rattle.std.specs.Prelude.{◌≡◌, ℕ, ◌+◌, ◌-◌, ◌≤◌, List, ◌++◌, length, vec_len, vec_capacity, min};
 ghost use Rattle.opus_packet.specs.PacketPrefix.{AreBytes};
 ghost use Rattle.opus_feed.specs.Bodies.{Fills, StandsBehind};
 ghost use Rattle.opus_feed.specs.Holding.{held_of};
@@ -39,6 +39,7 @@ pub(crate) fn advance(
     ensures moved { IsReading place → IsWhole result.place
         → body.new.front + body.new.came ≡ body.old.front + body.old.came + result.used }
     ensures within { result.used ≤ length piece.now }
+    ensures room { vec_capacity body.new.bytes ≡ vec_capacity body.old.bytes }
     ensures stays { Stays place head.old body.old result head.new body.new }
 {
     match place {
@@ -69,6 +70,7 @@ fn open(
     ensures moved { IsWhole result.place
         → body.new.front + body.new.came ≡ body.old.front + body.old.came + result.used }
     ensures within { result.used ≤ length piece.now }
+    ensures room { vec_capacity body.new.bytes ≡ vec_capacity body.old.bytes }
 {
     let taken = head.take(framing, stage, piece);
     body.front += taken.used;

@@ -61,6 +61,7 @@ impl Feed {
         ensures reading { IsReading self.new.place }
         ensures framing { self.new.framing ≡ framing }
         ensures padding { self.new.padding ≡ self.old.padding }
+        ensures room { room_in self.new ≡ room_in self.old }
     {
         self.framing = framing;
         self.place = Place::Opening(Stage::Toc);
@@ -80,6 +81,7 @@ impl Feed {
         ensures again { Again self.old result self.new }
         ensures framing { self.new.framing ≡ self.old.framing }
         ensures padding { self.new.padding ≡ self.old.padding }
+        ensures room { room_in self.new ≡ room_in self.old }
     {
         let moved = advance(
             self.framing,
@@ -103,6 +105,7 @@ impl Feed {
         ensures again { AgainEnd self.old result self.new }
         ensures framing { self.new.framing ≡ self.old.framing }
         ensures padding { self.new.padding ≡ self.old.padding }
+        ensures room { room_in self.new ≡ room_in self.old }
     {
         self.end();
         match self.place {
@@ -118,6 +121,7 @@ impl Feed {
         ensures stays { StaysOver self.old self.new }
         ensures framing { self.new.framing ≡ self.old.framing }
         ensures padding { self.new.padding ≡ self.old.padding }
+        ensures room { room_in self.new ≡ room_in self.old }
     {
         match self.place {
             Place::Opening(stage) => {
@@ -139,6 +143,7 @@ impl Feed {
         ensures ended { (bytes : List ℕ) → Stands self.old bytes → Ended self.new bytes }
         ensures framing { self.new.framing ≡ self.old.framing }
         ensures padding { self.new.padding ≡ self.old.padding }
+        ensures room { room_in self.new ≡ room_in self.old }
     {
         match self
             .head

@@ -1,10 +1,11 @@
-use Rattle.std.proofs.Common.{◌≡◌, ◌++◌, length, take, vec_len, refl, sym, arith, subst, ap, ◌∙◌}
+use Rattle.std.proofs.Common.{◌≡◌, ◌++◌, length, take, vec_len, vec_capacity, refl, sym, arith, subst, ap, ◌∙◌}
 use Rattle.std.proofs.lemmas.List.{take_rest}
 use Rattle.opus_packet.specs.Header.{Header, body_size}
 use Rattle.opus_feed.specs.Heads.{IsSound, spelling}
 use Rattle.opus_feed.specs.Places.{IsOpening, IsFilling}
 use Rattle.opus_feed.specs.Steps.{IsWhole}
 use Rattle.opus_packet.specs.declared.fault.Rule.TheVariants.{R5, PadLimit}
+use Rattle.opus_feed.specs.declared.body.Body.{Body}
 use Rattle.opus_feed.proofs.FillLemmas.{begun, filled, steady_behind}
 use Rattle.opus_feed.proofs.HoldingLemmas.{held_opening}
 use Rattle.opus_feed.proofs.OpenedLemmas.{opened_front, opened_small, opened_stands, opened_held, opened_all, open_from, Breaks, broken}
@@ -81,6 +82,7 @@ returns-in-BadCount c =
       held = λ bytes are_bytes are. has.held bytes are;
       moved = λ is. absurd (subst IsWhole r.ensures.place is);
       within = omega (arith, t.ensures.within, r.ensures.used);
+      room = ap (λ (b : Body). vec_capacity b.bytes) r.ensures.front;
     }
 
 pub returns-in-BadPadding : goal.returns-in-BadPadding
@@ -97,6 +99,7 @@ returns-in-BadPadding c =
       held = λ bytes are_bytes are. has.held bytes are;
       moved = λ is. absurd (subst IsWhole r.ensures.place is);
       within = omega (arith, t.ensures.within, r.ensures.used);
+      room = ap (λ (b : Body). vec_capacity b.bytes) r.ensures.front;
     }
 
 pub returns-in_default : goal.returns-in_default
@@ -128,4 +131,5 @@ returns-in_default c =
           t.ensures.spelled (t.ensures.all open_is) bytes are);
       moved = omega arith;
       within = t.ensures.within;
+      room = refl;
     }

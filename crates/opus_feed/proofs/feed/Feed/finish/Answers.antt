@@ -25,4 +25,5 @@ returns-in_default c =
       again = again_ok f.place f new refl e.stays full;
       framing = e.framing;
       padding = e.padding;
+      room = e.room;
     }
