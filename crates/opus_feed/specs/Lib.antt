@@ -1,5 +1,6 @@
 pub mod Stage
 pub mod Heads
+pub mod Taking
 pub mod Bodies
 pub mod Places
 pub mod Steps

@@ -17,6 +17,7 @@ pub(crate) struct Taken {
 impl Head {
     ghost use Rattle.opus_feed.specs.Stage.{IsOpen};
     ghost use Rattle.opus_feed.specs.Heads.{IsSound, spelling};
+    ghost use Rattle.opus_feed.specs.Taking.{IsTaking, TakesOn};
 
     /// Takes bytes of the header from the front of `piece`.
     #[inline(always)]
@@ -45,13 +46,8 @@ impl Head {
     // Takes the TOC byte and the count byte, where these come next.
     #[inline(always)]
     fn take_first(&mut self, framing: Framing, taken: Taken, piece: &[u8]) -> Taken
-        requires within { taken.used ≤ length piece.now }
-        requires sound { IsSound framing taken.stage self.old }
-        ensures sound { IsSound framing result.stage self.new }
-        ensures within { result.used ≤ length piece.now }
-        ensures spelled { (before : List ℕ)
-            → spelling framing taken.stage self.old ≡ before ++ take taken.used piece.now
-            → spelling framing result.stage self.new ≡ before ++ take result.used piece.now }
+        requires { IsTaking framing piece.now self.old taken }
+        ensures { TakesOn framing piece.now self.old taken self.new result }
     {
         match taken.stage {
             Stage::Toc if taken.used < piece.len() => {
@@ -75,13 +71,8 @@ impl Head {
     // Takes bytes of the padding length, where these come next.
     #[inline(always)]
     fn take_paddings(&mut self, framing: Framing, taken: Taken, piece: &[u8]) -> Taken
-        requires within { taken.used ≤ length piece.now }
-        requires sound { IsSound framing taken.stage self.old }
-        ensures sound { IsSound framing result.stage self.new }
-        ensures within { result.used ≤ length piece.now }
-        ensures spelled { (before : List ℕ)
-            → spelling framing taken.stage self.old ≡ before ++ take taken.used piece.now
-            → spelling framing result.stage self.new ≡ before ++ take result.used piece.now }
+        requires { IsTaking framing piece.now self.old taken }
+        ensures { TakesOn framing piece.now self.old taken self.new result }
     {
         let mut stage = taken.stage;
         let mut at = taken.used;
@@ -98,13 +89,8 @@ impl Head {
     // Takes frame lengths of one byte each, where these come next.
     #[inline(always)]
     fn take_lengths(&mut self, framing: Framing, taken: Taken, piece: &[u8]) -> Taken
-        requires within { taken.used ≤ length piece.now }
-        requires sound { IsSound framing taken.stage self.old }
-        ensures sound { IsSound framing result.stage self.new }
-        ensures within { result.used ≤ length piece.now }
-        ensures spelled { (before : List ℕ)
-            → spelling framing taken.stage self.old ≡ before ++ take taken.used piece.now
-            → spelling framing result.stage self.new ≡ before ++ take result.used piece.now }
+        requires { IsTaking framing piece.now self.old taken }
+        ensures { TakesOn framing piece.now self.old taken self.new result }
     {
         let mut stage = taken.stage;
         let mut at = taken.used;

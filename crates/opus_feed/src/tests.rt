@@ -1,3 +1,4 @@
+//! Packets and faults in pieces of every size, beside what `decode` and `decode_self` say of them whole.
 use crate::{Feed, Framing, Padding, Step};
 use opus_packet::{Fault, Packet, Rule, Tail, decode};
 use opus_self::decode_self;
