@@ -172,7 +172,7 @@ broken framing padding old new h k piece used rule b after place breaks is withi
     let bytes_are : vec_len after.bytes ≡ vec_len b.bytes = ap (λ (x : Body). vec_len x.bytes) same in
     let at : b.front + used - 1 ≡ after.front + after.came = omega arith in
     let read : (bytes : List ℕ) → bytes ≡ spelling framing old h → (more : List ℕ)
-        → header_read (bytes ++ piece ++ more) ≡ refused rule (b.front + used - 1) =
+    → header_read (bytes ++ piece ++ more) ≡ refused rule (b.front + used - 1) =
     λ bytes are more.
     ap (λ bs. header_read (bs ++ more)) (parts framing old new h k piece bytes used spelled are)
     ∙ ap header_read (append_assoc (spelling framing new k) (drop used piece) more)
