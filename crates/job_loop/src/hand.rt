@@ -45,6 +45,7 @@ pub(crate) fn close<N: Numbers, C: Copy, J: RecordJob<N, C>, O: Gather>(
     end: InputEnd<C>,
     out: &mut O,
 ) -> Ending<J::Refusal>
+    ensures same { J.meaning job.new ≡ J.meaning job.old }
     ensures closes { (k : J.Kept) → J.stands job.old k
         → Closes result end ((J.meaning job.old).finish k end)
         (O.contents out.old) (O.contents out.new) (O.held out.new) }

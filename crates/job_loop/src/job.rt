@@ -78,6 +78,7 @@ pub trait RecordJob<N: Numbers, C> {
         end: &InputEnd<C>,
         out: &mut O,
     ) -> Result<(), JobStop<Self::Refusal>>
+        ensures same { meaning self.new ≡ meaning self.old }
         ensures ok { OnOk result ((k : Kept) → stands self.old k
             → Goes ((meaning self.old).finish k end.now) (λ _. Unit {0})
             (O.contents out.old) (O.contents out.new)) }

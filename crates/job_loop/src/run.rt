@@ -37,6 +37,7 @@ where
         → Ran (J.meaning job.old) (F.settles (F.layout records.old.form))
         (F.ends (F.layout records.old.form)) F.place records.old.reader.limit
         (S.left source.old) (S.left source.new) before (O.contents out.new) (O.held out.new) result }
+    ensures same { J.meaning job.new ≡ J.meaning job.old }
     ensures read { RoseWhere (is_read_fault result) (S.faults source.old) (S.faults source.new) }
     ensures cause { Causes (is_write_fault result) (is_no_memory result) (J.lacks job.old)
         (O.faults out.old) (O.faults out.new) (O.refusals out.old) (O.refusals out.new) }
