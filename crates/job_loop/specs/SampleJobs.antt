@@ -1,4 +1,4 @@
--- Two small jobs, on which the tests run.
+-- Three small jobs, on which the tests run.
 use Rattle.std.specs.Prelude.{ℕ, ◌+◌, List, [], ◌∷◌, Bool, true, false, min}
 use Rattle.job_loop.specs.Shown.{Shown}
 use Rattle.job_loop.specs.declared.input_end.InputEnd.{InputEnd}
@@ -30,4 +30,13 @@ counts = record {
   start = 0;
   step = λ k r. goes [] (min (k + 1) 255);
   finish = λ k end. goes (k ∷ []) tt;
+}
+
+-- writes the same text for each record and at the end
+abbrev pub repeats : {N C : Type 0} → List ℕ → Meaning (Shown N) (Unit {0}) C Bool
+repeats text = record {
+  opening = [];
+  start = tt;
+  step = λ k r. goes text tt;
+  finish = λ k end. goes text tt;
 }

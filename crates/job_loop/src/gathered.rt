@@ -1,5 +1,5 @@
 //! The gathered sink: few large writes in place of many small ones.
-ghost use Rattle.std.specs.Prelude.{◌≡◌, ◌+◌, ◌-◌, ◌<◌, ◌≤◌, ℕ, List, [], ◌++◌, Some, IfOk, OnOk, length, take, drop, slice_range, vec_len};
+ghost use Rattle.std.specs.Prelude.{◌≡◌, ◌+◌, ◌-◌, ◌<◌, ◌≤◌, ℕ, List, [], ◌++◌, Some, IfOk, OnOk, length, take, drop, slice_range, vec_len, vec_capacity};
 ghost use Rattle.std.specs.Io.{WritesAtMost};
 ghost use Rattle.std.specs.Io.KnownBytes.{Keeps, WriteAppends, append_known};
 ghost use Rattle.opus_io.specs.Sink.{SinkCause, Onward};
@@ -27,10 +27,12 @@ pub struct Gathered<'o, O> {
 
 /// Takes the memory for a gathered sink: 8,192 bytes.
 pub fn take_room(alloc: Global) -> Result<Vec<u8>, NoMemory>
-    ensures { IfOk result (λ room. vec_len room ≡ 8192) }
+    ensures { IfOk result (λ room. (vec_len room ≡ 8192) × (vec_capacity room ≡ 8192)) }
 {
     let mut room = Vec::with_capacity(alloc, ROOM)?;
-    room.resize(ROOM, 0)?;
+    'room: for _ in 0..ROOM {
+        room.push_reserved(0);
+    }
     Ok(room)
 }
 

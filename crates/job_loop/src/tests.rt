@@ -1,8 +1,9 @@
-//! Two small forms and two small jobs, and runs of each job over each form.
+//! Two small forms and three small jobs, and runs of jobs over forms.
 
 mod count;
 mod length_form;
 mod payloads;
+mod repeats;
 mod size_form;
 
 use crate::{Ending, run_job};
@@ -10,6 +11,7 @@ use count::Count;
 use length_form::LengthForm;
 use opus_io::{MemorySink, MemorySource, NoMemory};
 use payloads::Payloads;
+use repeats::Repeats;
 use size_form::SizeForm;
 use std::alloc::Global;
 use std::test::Fail;
@@ -164,6 +166,30 @@ fn a_text_longer_than_the_gathered_sink_is_whole(rt: HostRuntime) -> Result<(), 
         let end = write_payloads(alloc, &input, 100_000, 4096, &[], &mut sink)?;
         assert_eq!(rt; end, Ending::Ok);
         assert_eq!(rt; sink.contents() == text.as_slice(), true);
+    }
+    Ok(())
+}
+
+// A run that writes 9,000 bytes for each of two records and at the end.
+fn write_repeats(alloc: Global, sink: &mut MemorySink) -> Result<Ending<bool>, Fail> {
+    let mut source = MemorySource::new(alloc, b"\x01a\x01b", 4096, &[])?;
+    let mut text = Vec::new(alloc);
+    text.resize(9000, b'x')?;
+    let mut job = Repeats { text };
+    Ok(run_job(alloc, 9, LengthForm::new(), &mut job, &mut source, sink))
+}
+
+#[test]
+fn nothing_is_written_behind_a_write_that_failed(rt: HostRuntime) -> Result<(), Fail> {
+    let alloc = rt.alloc();
+    // Nine writes are needed. One of them fails and the next would be taken, or those behind it fail as well.
+    for first in 1..10u64 {
+        let mut once = sink_of(alloc, 4096, &[first])?;
+        assert_eq!(rt; write_repeats(alloc, &mut once)?, Ending::WriteFault);
+        let all = [first, first + 1, first + 2, first + 3, first + 4];
+        let mut always = sink_of(alloc, 4096, &all)?;
+        assert_eq!(rt; write_repeats(alloc, &mut always)?, Ending::WriteFault);
+        assert_eq!(rt; once.contents() == always.contents(), true);
     }
     Ok(())
 }
