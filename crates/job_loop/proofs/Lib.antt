@@ -5,6 +5,7 @@ pub mod RunLemmas
 pub mod CauseLemmas
 pub mod Reached
 pub mod EndLemmas
+pub mod TurnLemmas
 pub mod RangeLemmas
 pub mod InnerLemmas
 pub mod JudgeLemmas

@@ -1,15 +1,12 @@
 use Rattle.std.proofs.Common.{◌≡◌, ℕ, ◌<◌, List, [], ◌∷◌, ◌++◌, length, refl, sym, ap, ◌∙◌, subst, arith, rules}
 use Rattle.std.specs.Io.KnownBytes.{Keeps}
-use Rattle.std.proofs.KnownBytes.{Appends-kept, Appends-trans, Consumes-kept}
 use Rattle.opus_io.specs.Reader.{ReaderState, coming}
 use Rattle.opus_io.proofs.Onward.{Onward-still, Onward-trans}
-use Rattle.job_loop.specs.Meaning.{adds, end_of}
-use Rattle.job_loop.specs.Telling.{Goes, Halts, Closes}
+use Rattle.job_loop.specs.Telling.{Goes}
 use Rattle.job_loop.specs.Turns.{still}
-use Rattle.job_loop.specs.Ran.{Ran}
-use Rattle.job_loop.proofs.Reached.{reached_start, reached_part, reached_record, reached_read, moved_consumed, moved_size, within_moved, still_moved, still_read, taken_at, taken_all, taken_unread, taken_past}
-use Rattle.job_loop.proofs.EndLemmas.{closed_at_end, closed_past, halted_at, halted_at_end, stopped_at}
-use Rattle.job_loop.proofs.RunLemmas.{runs-on, meant, meant_end}
+use Rattle.job_loop.proofs.Reached.{reached_start, reached_part, reached_record, reached_read, within_moved, still_moved, still_read}
+use Rattle.job_loop.proofs.RunLemmas.{meant}
+use Rattle.job_loop.proofs.TurnLemmas.{turn_unwritten, turn_unread, turn_past, turn_halted, turn_ended, turn_halted_last, turn_ended_last}
 use Rattle.job_loop.proofs.run.run_records.Goals as goal
 
 pub records-init : goal.records-init
@@ -69,35 +66,17 @@ pub returns-in-Err-clause-ran : goal.returns-in-Err-clause-ran
 returns-in-Err-clause-ran g c = λ before opens.
     let i = c.records.invariant in
     let e = c.in-Record.ensures in
-    let old = c.records.records.reader in
+    let l = g.F.Form.layout c.args.records.now.form in
     let new = c.next.new.self.reader in
-    let m = g.J.RecordJob.meaning c.args.job.now in
-    let S = g.F.Form.stands c.records.records.form in
-    let S' = g.F.Form.stands c.next.new.self.form in
-    let J = g.J.RecordJob.stands c.records.job in
-    let left = g.S.Source.left c.args.source.now in
-    let source = g.S.Source.left c.records.source in
-    let now = g.O.Sink.contents c.records.out in
-    let after = g.O.Sink.contents c.hand.new.out in
-    let held = g.O.Gather.held c.hand.new.out in
-    let Settles = g.F.Form.settles (g.F.Form.layout c.args.records.now.form) in
     let r = g.F.Form.current c.next.new.self.form new.last in
     let p = i.reached before opens in
-    let front = p.front ++ new.last in
     let turn = e.turn p.front p.records p.stands p.size in
-    let consumed = moved_consumed m S S' J J left before now now old new source p e.moves in
-    let size = moved_size m S S' J J left before now now old new source p e.moves in
-    halted_at m Settles (g.F.Form.ends (g.F.Form.layout c.args.records.now.form)) g.F.Form.place
-    c.args.records.now.reader.limit left source before now after held p.records p.text p.kept p.run p.written
-    front new.bytes r
-    (taken_at c.args.records.now.reader.limit new left source front consumed size
-    (within_moved old new i.within e.moves) (e.moves.limit ∙ i.limit))
-    (turn.1 ∙ sym size)
-    (subst (λ l. g.F.Form.settles l front (p.records ++ r ∷ [])) (e.same ∙ i.layout)
-    (g.met.F.Form.settled c.next.new.self.form front (p.records ++ r ∷ []) turn.0))
-    c.in-Err.ending
-    (meant (g.J.RecordJob.meaning c.records.job) m (λ s. Halts c.in-Err.ending s now after held) p.kept c.record.result r
-    i.meaning c.record.ensures.is (c.in-Err.ensures.halt p.kept p.job))
+    turn_halted (g.F.Form.settles l) (g.F.Form.ends l) g.F.Form.place c.args.records.now.reader.limit
+    (g.S.Source.left c.records.source) c.records.records.reader new i.within i.limit p
+    (g.J.RecordJob.meaning c.records.job) i.meaning (g.O.Sink.contents c.hand.new.out) (g.O.Gather.held c.hand.new.out)
+    c.record.result r c.record.ensures.is c.in-Err.ending (c.in-Err.ensures.halt p.kept p.job) e.moves turn.1
+    (subst (λ l. g.F.Form.settles l (p.front ++ new.last) (p.records ++ r ∷ [])) (e.same ∙ i.layout)
+    (g.met.F.Form.settled c.next.new.self.form (p.front ++ new.last) (p.records ++ r ∷ []) turn.0))
 
 pub records-preserved-in_default : goal.records-preserved-in_default
 records-preserved-in_default g c =
@@ -144,24 +123,14 @@ pub returns-in-Err-flush-clause-ran : goal.returns-in-Err-flush-clause-ran
 returns-in-Err-flush-clause-ran g c = λ before opens.
     let i = c.records.invariant in
     let e = c.in-Needs.ensures in
-    let old = c.records.records.reader in
-    let left = g.S.Source.left c.args.source.now in
-    let source = g.S.Source.left c.records.source in
-    let now = g.O.Sink.contents c.records.out in
-    let after = g.O.Sink.contents c.flush.new.self in
-    let held = g.O.Gather.held c.flush.new.self in
-    let m = g.J.RecordJob.meaning c.args.job.now in
-    let Settles = g.F.Form.settles (g.F.Form.layout c.args.records.now.form) in
-    let Ends = g.F.Form.ends (g.F.Form.layout c.args.records.now.form) in
-    let limit = c.args.records.now.reader.limit in
+    let l = g.F.Form.layout c.args.records.now.form in
     let p = i.reached before opens in
-    subst (λ e. Ran m Settles Ends g.F.Form.place limit left source before after held e) (sym c.stopped.ensures)
-    (stopped_at m Settles Ends g.F.Form.place limit left source before now after held p.records p.text p.kept p.run
-    p.written p.front old.bytes
-    (taken_at limit old left source p.front p.consumed p.size i.within i.limit)
+    turn_unwritten (g.F.Form.settles l) (g.F.Form.ends l) g.F.Form.place c.args.records.now.reader.limit
+    (g.S.Source.left c.records.source) c.records.records.reader c.next.new.self.reader i.within i.limit p
+    (g.J.RecordJob.meaning c.records.job) i.meaning (g.O.Sink.contents c.flush.new.self) (g.O.Gather.held c.flush.new.self)
     (subst (λ l. g.F.Form.settles l p.front p.records) (e.same ∙ i.layout)
     (g.met.F.Form.settled c.next.new.self.form p.front p.records (e.turn p.front p.records p.stands p.size)))
-    c.in-Err-flush.ensures.keeps c.in-Err-flush.stop)
+    c.in-Err-flush.ensures.keeps c.in-Err-flush.stop c.stopped.result c.stopped.ensures
 
 pub returns-in-Err-read-clause-ran : goal.returns-in-Err-read-clause-ran
 returns-in-Err-read-clause-ran g c = λ before opens.
@@ -169,28 +138,15 @@ returns-in-Err-read-clause-ran g c = λ before opens.
     let e = c.in-Needs.ensures in
     let f = c.in_default-flush.ensures in
     let r = c.in-Err-read.ensures in
-    let old = c.records.records.reader in
-    let new = c.read.new.self.reader in
-    let left = g.S.Source.left c.args.source.now in
-    let source = g.S.Source.left c.records.source in
-    let source' = g.S.Source.left c.read.new.source in
+    let l = g.F.Form.layout c.args.records.now.form in
     let p = i.reached before opens in
-    record {
-      front = p.front;
-      records = p.records;
-      text = p.text;
-      kept = p.kept;
-      consumed = taken_unread new left source' p.front
-          (Consumes-kept left (coming old source) (coming new source') p.front p.consumed
-          (subst (λ (k : ReaderState). Keeps (coming k source) (coming new source')) e.moves.0.same r.stays.coming))
-          r.failed;
-      in_limit = omega (arith, p.size, i.within.in_limit, i.limit);
-      settled = subst (λ l. g.F.Form.settles l p.front p.records) (e.same ∙ i.layout)
-          (g.met.F.Form.settled c.next.new.self.form p.front p.records (e.turn p.front p.records p.stands p.size));
-      run = p.run;
-      written = Appends-kept before (g.O.Sink.contents c.records.out) (g.O.Sink.contents c.flush.new.self) p.text p.written f.keeps;
-      handed_on = f.empty;
-    }
+    turn_unread (g.F.Form.settles l) (g.F.Form.ends l) g.F.Form.place c.args.records.now.reader.limit
+    (g.S.Source.left c.records.source) c.records.records.reader c.next.new.self.reader i.within i.limit p
+    (g.J.RecordJob.meaning c.records.job) i.meaning (g.O.Sink.contents c.flush.new.self) (g.O.Gather.held c.flush.new.self)
+    e.moves.0 c.read.new.self.reader (g.S.Source.left c.read.new.source) r.stays.coming r.failed
+    (subst (λ l. g.F.Form.settles l p.front p.records) (e.same ∙ i.layout)
+    (g.met.F.Form.settled c.next.new.self.form p.front p.records (e.turn p.front p.records p.stands p.size)))
+    f.keeps f.empty
 
 pub records-preserved : goal.records-preserved
 records-preserved g c =
@@ -244,108 +200,66 @@ pub returns-in-Past-clause-ran : goal.returns-in-Past-clause-ran
 returns-in-Past-clause-ran g c = λ before opens.
     let i = c.records.invariant in
     let e = c.in-Past.ensures in
-    let old = c.records.records.reader in
-    let left = g.S.Source.left c.args.source.now in
-    let source = g.S.Source.left c.records.source in
-    let now = g.O.Sink.contents c.records.out in
-    let after = g.O.Sink.contents c.close.new.out in
-    let held = g.O.Gather.held c.close.new.out in
-    let m = g.J.RecordJob.meaning c.args.job.now in
-    let limit = c.args.records.now.reader.limit in
+    let l = g.F.Form.layout c.args.records.now.form in
     let p = i.reached before opens in
-    closed_past m (g.F.Form.settles (g.F.Form.layout c.args.records.now.form))
-    (g.F.Form.ends (g.F.Form.layout c.args.records.now.form)) g.F.Form.place limit left source before now after held
-    p.records p.text p.kept p.run p.written p.front old.bytes
-    (taken_past limit old left source p.front p.consumed p.size i.within i.limit
-    (subst (λ (k : ReaderState). k.passed ≡ k.limit) e.moves.same e.moves.full)
-    (subst (λ (k : ReaderState). 0 < length k.bytes) e.moves.same e.moves.more))
+    turn_past (g.F.Form.settles l) (g.F.Form.ends l) g.F.Form.place c.args.records.now.reader.limit
+    (g.S.Source.left c.records.source) c.records.records.reader c.next.new.self.reader i.within i.limit p
+    (g.J.RecordJob.meaning c.records.job) i.meaning (g.O.Sink.contents c.close.new.out) (g.O.Gather.held c.close.new.out)
+    e.moves
     (subst (λ l. g.F.Form.settles l p.front p.records) (e.same ∙ i.layout)
     (g.met.F.Form.settled c.next.new.self.form p.front p.records (e.turn p.front p.records p.stands p.size)))
-    c.close.result
-    (meant_end (g.J.RecordJob.meaning c.records.job) m (λ end s. Closes c.close.result end s now after held) p.kept _ _
-    i.meaning refl (c.close.ensures.closes p.kept p.job))
+    c.close.result (c.close.ensures.closes p.kept p.job)
 
 pub returns-in-End-clause-ran : goal.returns-in-End-clause-ran
 returns-in-End-clause-ran g c = λ before opens.
     let i = c.records.invariant in
     let e = c.in-End.ensures in
-    let old = c.records.records.reader in
-    let left = g.S.Source.left c.args.source.now in
-    let source = g.S.Source.left c.records.source in
-    let now = g.O.Sink.contents c.records.out in
-    let after = g.O.Sink.contents c.close-in-End.new.out in
-    let held = g.O.Gather.held c.close-in-End.new.out in
-    let m = g.J.RecordJob.meaning c.args.job.now in
-    let limit = c.args.records.now.reader.limit in
-    let cut = c.in-End.cut in
+    let l = g.F.Form.layout c.args.records.now.form in
+    let close = c.close-in-End in
     let p = i.reached before opens in
-    closed_at_end m (g.F.Form.settles (g.F.Form.layout c.args.records.now.form))
-    (g.F.Form.ends (g.F.Form.layout c.args.records.now.form)) g.F.Form.place limit left source before now after held
-    p.records p.text p.kept p.run p.written p.front cut
-    (taken_all limit old left source p.front p.consumed p.size i.within i.limit
-    (subst (λ (k : ReaderState). k.bytes ≡ []) e.moves.0.same e.moves.0.none) (i.end e.moves.1))
-    (subst (λ l. g.F.Form.ends l p.front p.records cut) i.layout (e.turn p.front p.records p.stands p.size))
-    c.close-in-End.result
-    (meant_end (g.J.RecordJob.meaning c.records.job) m (λ end s. Closes c.close-in-End.result end s now after held)
-    p.kept c.end_of.result (end_of cut) i.meaning c.end_of.ensures (c.close-in-End.ensures.closes p.kept p.job))
+    turn_ended (g.F.Form.settles l) (g.F.Form.ends l) g.F.Form.place c.args.records.now.reader.limit
+    (g.S.Source.left c.records.source) c.records.records.reader c.next.new.self.reader i.within i.limit p
+    (g.J.RecordJob.meaning c.records.job) i.meaning (g.O.Sink.contents close.new.out) (g.O.Gather.held close.new.out)
+    e.moves.0 (i.end e.moves.1) c.in-End.cut
+    (subst (λ l. g.F.Form.ends l p.front p.records c.in-End.cut) i.layout (e.turn p.front p.records p.stands p.size))
+    c.end_of.result c.end_of.ensures close.result (close.ensures.closes p.kept p.job)
 
 pub returns-in-Err-hand-clause-ran : goal.returns-in-Err-hand-clause-ran
 returns-in-Err-hand-clause-ran g c = λ before opens.
     let i = c.records.invariant in
     let e = c.in-Last.ensures in
-    let old = c.records.records.reader in
-    let left = g.S.Source.left c.args.source.now in
-    let source = g.S.Source.left c.records.source in
-    let now = g.O.Sink.contents c.records.out in
-    let after = g.O.Sink.contents c.hand-in-Last.new.out in
-    let held = g.O.Gather.held c.hand-in-Last.new.out in
-    let m = g.J.RecordJob.meaning c.args.job.now in
-    let limit = c.args.records.now.reader.limit in
-    let cut = c.in-Last.cut in
+    let l = g.F.Form.layout c.args.records.now.form in
+    let hand = c.hand-in-Last in
     let r = g.F.Form.current c.next.new.self.form c.next.new.self.reader.last in
     let p = i.reached before opens in
-    halted_at_end m (g.F.Form.settles (g.F.Form.layout c.args.records.now.form))
-    (g.F.Form.ends (g.F.Form.layout c.args.records.now.form)) g.F.Form.place limit left source before now after held
-    p.records p.text p.kept p.run p.written p.front cut r
-    (taken_all limit old left source p.front p.consumed p.size i.within i.limit
-    (subst (λ (k : ReaderState). k.bytes ≡ []) e.moves.0.same e.moves.0.none) (i.end e.moves.1))
-    (subst (λ l. g.F.Form.ends l p.front (p.records ++ r ∷ []) cut) i.layout (e.turn p.front p.records p.stands p.size))
-    c.in-Err-hand.ending
-    (meant (g.J.RecordJob.meaning c.records.job) m (λ s. Halts c.in-Err-hand.ending s now after held) p.kept
-    c.record-in-Last.result r i.meaning c.record-in-Last.ensures.is (c.in-Err-hand.ensures.halt p.kept p.job))
+    turn_halted_last (g.F.Form.settles l) (g.F.Form.ends l) g.F.Form.place c.args.records.now.reader.limit
+    (g.S.Source.left c.records.source) c.records.records.reader c.next.new.self.reader i.within i.limit p
+    (g.J.RecordJob.meaning c.records.job) i.meaning (g.O.Sink.contents hand.new.out) (g.O.Gather.held hand.new.out)
+    e.moves.0 (i.end e.moves.1) c.in-Last.cut c.record-in-Last.result r c.record-in-Last.ensures.is
+    c.in-Err-hand.ending (c.in-Err-hand.ensures.halt p.kept p.job)
+    (subst (λ l. g.F.Form.ends l p.front (p.records ++ r ∷ []) c.in-Last.cut) i.layout
+    (e.turn p.front p.records p.stands p.size))
 
 pub returns-in-Last-clause-ran : goal.returns-in-Last-clause-ran
 returns-in-Last-clause-ran g c = λ before opens.
     let i = c.records.invariant in
     let e = c.in-Last.ensures in
     let h = c.in_default-hand.ensures in
-    let old = c.records.records.reader in
-    let left = g.S.Source.left c.args.source.now in
-    let source = g.S.Source.left c.records.source in
-    let now = g.O.Sink.contents c.records.out in
-    let mid = g.O.Sink.contents c.hand-in-Last.new.out in
-    let after = g.O.Sink.contents c.close-in-Last.new.out in
-    let held = g.O.Gather.held c.close-in-Last.new.out in
-    let m = g.J.RecordJob.meaning c.args.job.now in
-    let J' = g.J.RecordJob.stands c.hand-in-Last.new.job in
-    let limit = c.args.records.now.reader.limit in
-    let cut = c.in-Last.cut in
+    let l = g.F.Form.layout c.args.records.now.form in
+    let hand = c.hand-in-Last in
+    let close = c.close-in-Last in
     let r = g.F.Form.current c.next.new.self.form c.next.new.self.reader.last in
     let p = i.reached before opens in
-    let went = meant (g.J.RecordJob.meaning c.records.job) m (λ s. Goes s J' now mid) p.kept c.record-in-Last.result r
-    i.meaning c.record-in-Last.ensures.is (h.ok p.kept p.job) in
-    closed_at_end m (g.F.Form.settles (g.F.Form.layout c.args.records.now.form))
-    (g.F.Form.ends (g.F.Form.layout c.args.records.now.form)) g.F.Form.place limit left source before mid after held
-    (p.records ++ r ∷ []) (p.text ++ went.text) went.kept
-    (runs-on m p.records r p.text p.kept p.run ∙ ap (adds p.text) went.step_is)
-    (Appends-trans before now mid p.text went.text p.written went.written) p.front cut
-    (taken_all limit old left source p.front p.consumed p.size i.within i.limit
-    (subst (λ (k : ReaderState). k.bytes ≡ []) e.moves.0.same e.moves.0.none) (i.end e.moves.1))
-    (subst (λ l. g.F.Form.ends l p.front (p.records ++ r ∷ []) cut) i.layout (e.turn p.front p.records p.stands p.size))
-    c.close-in-Last.result
-    (meant_end (g.J.RecordJob.meaning c.hand-in-Last.new.job) m
-    (λ end s. Closes c.close-in-Last.result end s mid after held) went.kept c.end_of-in-Last.result (end_of cut)
-    (h.same ∙ i.meaning) c.end_of-in-Last.ensures (c.close-in-Last.ensures.closes went.kept went.stands))
+    let went = h.ok p.kept p.job in
+    turn_ended_last (g.F.Form.settles l) (g.F.Form.ends l) g.F.Form.place c.args.records.now.reader.limit
+    (g.S.Source.left c.records.source) c.records.records.reader c.next.new.self.reader i.within i.limit p
+    (g.J.RecordJob.meaning c.records.job) i.meaning (g.O.Sink.contents close.new.out) (g.O.Gather.held close.new.out)
+    e.moves.0 (i.end e.moves.1) c.in-Last.cut (g.O.Sink.contents hand.new.out) (g.J.RecordJob.stands hand.new.job)
+    c.record-in-Last.result r c.record-in-Last.ensures.is went
+    (subst (λ l. g.F.Form.ends l p.front (p.records ++ r ∷ []) c.in-Last.cut) i.layout
+    (e.turn p.front p.records p.stands p.size))
+    (g.J.RecordJob.meaning hand.new.job) h.same c.end_of-in-Last.result c.end_of-in-Last.ensures close.result
+    (close.ensures.closes went.kept went.stands)
 
 -- ---- a sink that goes on to another one
 
