@@ -50,6 +50,20 @@ GOALS = {
 }
 
 
+def plain():
+    """A self-delimited packet of 200 bytes: code 0."""
+    return bytes([0xfc, 198]) + bytes(198)
+
+
+def three_lengths():
+    """A self-delimited packet of 200 bytes: code 3 with three spelled lengths and 10 bytes of padding."""
+    return bytes([0xff, 0xc3, 10, 60, 61, 63]) + bytes(184 + 10)
+
+
+# Instructions a packet that a feed is to take, beyond the copy of the frames.
+FEED_GOALS = {"code 0": (plain, 150), "code 3, three lengths, padding": (three_lengths, 250)}
+
+
 def spelled_length(size):
     """A frame's length as RFC 6716, 3.2.1 spells it."""
     return bytes([size]) if size < 252 else bytes([252 + size % 4, (size - 252 - size % 4) // 4])
@@ -111,14 +125,22 @@ def run(words, path):
     return used.ru_utime + used.ru_stime - before.ru_utime - before.ru_stime, most
 
 
-def instructions(words, path, folder):
-    """Instructions that one run takes, by callgrind."""
+def instructions(command, path, folder):
+    """Instructions that one run takes, by callgrind; and its status."""
     out = pathlib.Path(folder, "callgrind.out")
     with open(path, "rb") as source:
         done = subprocess.run(
-            ["valgrind", "--tool=callgrind", f"--callgrind-out-file={out}", PROGRAM, *words],
+            ["valgrind", "--tool=callgrind", f"--callgrind-out-file={out}", *command],
             stdin=source, stdout=subprocess.DEVNULL, stderr=subprocess.PIPE, text=True)
-    return int(re.search(r"Collected : (\d+)", done.stderr)[1])
+    return int(re.search(r"Collected : (\d+)", done.stderr)[1]), done.returncode
+
+
+def copies(folder):
+    """Instructions of the last run that callgrind saw, within the C library's copies of bytes."""
+    told = subprocess.run(
+        ["callgrind_annotate", "--threshold=100", pathlib.Path(folder, "callgrind.out")],
+        stdout=subprocess.PIPE, text=True, check=True).stdout
+    return sum(int(count.replace(",", "")) for count in re.findall(r"(?m)^ *([\d,]+) .*:_*mem(?:cpy|move)\w*", told))
 
 
 def costs(words, payload, folder):
@@ -126,8 +148,40 @@ def costs(words, payload, folder):
     few, many = pathlib.Path(folder, "few"), pathlib.Path(folder, "many")
     record = (lambda k, packet: framed(packet)) if "self" in words else demo
     body = store(many, 2_500, payload, record) - store(few, 500, payload, record)
-    more = instructions(words, many, folder) - instructions(words, few, folder)
+    more = instructions([PROGRAM, *words], many, folder)[0] - instructions([PROGRAM, *words], few, folder)[0]
     return more / 2_000, more / body
+
+
+def feed_program(folder):
+    """Builds the program of feed/main.rs over opus_feed and the crates below it, in a checkout of its own."""
+    top = pathlib.Path(folder, "checkout")
+    lines = (TOP / "crates.txt").read_text().splitlines()
+    below = next(line for line in lines if line.startswith("opus_feed:")).split()[1:]
+    names = ["opus_feed", *[name for name in below if (TOP / "crates" / name).exists()]]
+    for name in names:
+        shutil.copytree(TOP / "crates" / name, top / "crates" / name)
+    crate = top / "crates/feed_cost"
+    (crate / "src").mkdir(parents=True)
+    shutil.copy(TOP / "bench/feed/main.rs", crate / "src/main.rt")
+    shutil.copy(TOP / "HANDLES", top)
+    kept = [line for line in lines if line.split(":")[0] in names]
+    (top / "crates.txt").write_text("\n".join([*kept, f"feed_cost: opus_feed {' '.join(below)}", ""]))
+    subprocess.run(["rt", "run"], cwd=crate, stdin=subprocess.DEVNULL, stdout=subprocess.DEVNULL, stderr=subprocess.DEVNULL, check=True)
+    return crate / "out/feed_cost"
+
+
+def feed_cost(program, packet, folder):
+    """Instructions a packet that the feed takes, beyond the copies of bytes and the program's own loop."""
+    path = pathlib.Path(folder, "packets")
+    taken = {}
+    for words in [[], ["pass"]]:
+        for count in [512, 2_560]:
+            path.write_bytes(packet * count)
+            total, status = instructions([program, *words], path, folder)
+            if not words and status != count % 251:
+                sys.exit("a feed that did not end each packet")
+            taken[len(words), count] = total - copies(folder)
+    return (taken[0, 2_560] - taken[0, 512] - taken[1, 2_560] + taken[1, 512]) / 2_048
 
 
 def writes(words, path):
@@ -177,6 +231,9 @@ def main():
                 goal = GOALS.get((words[0], name))
                 said = f" (goal {goal})" if goal and len(words) == 3 else ""
                 print(f"{' '.join(words)}, {name}: {packet:.0f} instructions a packet{said}, {byte:.2f} a payload byte")
+        program = feed_program(folder)
+        for name, (packet, goal) in FEED_GOALS.items():
+            print(f"feed, {name}: {feed_cost(program, packet(), folder):.0f} instructions a packet (goal {goal})")
 
 
 main()
