@@ -5,3 +5,8 @@ pub mod WriteLemmas
 pub mod FormsLemmas
 pub mod PrefixLemmas
 pub mod StandardFacts
+pub mod RoomLemmas
+pub mod ReadsLemmas
+pub mod StandsLemmas
+pub mod EndLemmas
+pub mod TakenLemmas

@@ -17,7 +17,7 @@ use Rattle.opus_feed.specs.Packets.{IsPrefix}
 use Rattle.opus_multi.specs.Streams.{SpelledStream, BeginsWithStream, StandFirst, IsLastStream, AreStreams}
 use Rattle.opus_multi.specs.MultistreamFault.{framing_of}
 use Rattle.opus_multi.specs.MultistreamPrefix.{IsMultistreamPrefix, BecomesStreams}
-use Rattle.opus_multi.proofs.StreamsLemmas.{stand_more}
+use Rattle.opus_multi.proofs.StreamsLemmas.{stand_more, stand_bytes}
 use Rattle.opus_multi.proofs.ReadLemmas.{lt_or_ge, framing_more, framing_past, framing_end}
 use Rattle.opus_multi.proofs.FormsLemmas.{streams_after, streams_behind, one_stream}
 
@@ -71,10 +71,6 @@ framing_next count k = go (lt_or_ge (k + 1) count)
     go (inr past) = framing_past (suc count) (suc k) (omega (arith, past)) ∙ sym (framing_past count k past)
 
 -- a prefix becomes streams
-
-stand_bytes : (ss : List SpelledStream) (bytes rest : List ℕ) → StandFirst ss bytes rest → AreBytes bytes → AreBytes rest
-stand_bytes [] bytes rest e are = rw (sym e) are
-stand_bytes (s ∷ ss) bytes rest h are = stand_bytes ss (drop s.size bytes) rest h.1 (AreBytes-drop s.size bytes are)
 
 last_becomes : (count : ℕ) (bytes : List ℕ) → AreBytes bytes → (p : IsMultistreamPrefix count bytes)
     → length p.first + 1 ≡ count → BecomesStreams count bytes

@@ -1,6 +1,8 @@
 -- Streams that stand first in some bytes.
 use Rattle.std.proofs.Common.{◌≡◌, ℕ, ◌<◌, ◌≤◌, ◌⊎◌, inl, inr, List, [], ◌∷◌, ◌++◌, length, take, drop, refl, ap, sym, arith, length-append}
 use Rattle.std.proofs.lemmas.List.{take-append-le, drop-append-le}
+use Rattle.opus_packet.specs.PacketPrefix.{AreBytes}
+use Rattle.opus_packet.proofs.BytesLemmas.{AreBytes-drop}
 use Rattle.opus_packet.proofs.GrammarLemmas.{IsPacket-unique}
 use Rattle.opus_self.proofs.SelfLemmas.{IsSelfDelimited-unique}
 use Rattle.opus_self.proofs.SelfPrefixLemmas.{begins_once}
@@ -40,6 +42,10 @@ stand_more (s ∷ ss) bytes rest more h =
       record { within = omega (arith, within, length-append bytes more); spelled = rw (take-append-le s.size bytes more within) h.0.spelled },
       rw (drop-append-le s.size bytes more within) (stand_more ss (drop s.size bytes) rest more h.1),
     )
+
+pub stand_bytes : (ss : List SpelledStream) (bytes rest : List ℕ) → StandFirst ss bytes rest → AreBytes bytes → AreBytes rest
+stand_bytes [] bytes rest e are = rw (sym e) are
+stand_bytes (s ∷ ss) bytes rest h are = stand_bytes ss (drop s.size bytes) rest h.1 (AreBytes-drop s.size bytes are)
 
 -- behind the fewer of two lists of streams stands the next one; or both are as long, and one rest is behind them
 abbrev pub Follows : List SpelledStream → List SpelledStream → List ℕ → List ℕ → Type 0

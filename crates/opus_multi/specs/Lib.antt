@@ -8,3 +8,8 @@ pub mod Forms
 pub mod Readings
 pub mod Joins
 pub mod Parts
+pub mod StreamParts
+pub mod MultiRooms
+pub mod MultiStands
+pub mod MultiAnswers
+pub mod MultiTurns

@@ -10,7 +10,7 @@ pub(crate) struct Durations {
 }
 
 impl Durations {
-    ghost use Rattle.std.specs.Prelude.{◌≡◌, ℕ, List, [], ◌∷◌, ◌++◌, length};
+    ghost use Rattle.std.specs.Prelude.{◌≡◌, ℕ, List, [], ◌∷◌, ◌++◌, length, Some};
     ghost use Rattle.opus_multi.specs.Told.{Told};
 
     /// None were told.
@@ -25,7 +25,8 @@ impl Durations {
 
     /// Behind `at` of them comes this one.
     pub fn add(&mut self, at: usize, duration: u32)
-        ensures { (ds : List ℕ) → length ds ≡ at → Told self.old ds → Told self.new (ds ++ duration ∷ []) }
+        ensures told { (ds : List ℕ) → length ds ≡ at → Told self.old ds → Told self.new (ds ++ duration ∷ []) }
+        ensures stays { (k : ℕ) → self.old.other ≡ Some k → self.new.other ≡ Some k }
     {
         if at == 0 {
             self.first = duration;

@@ -8,6 +8,8 @@ mod joined;
 pub mod laws;
 mod list;
 mod multi;
+mod multi_feed;
+mod multi_place;
 mod part;
 #[cfg(test)]
 mod tests;
@@ -16,4 +18,5 @@ pub use fault::{JoinFault, MultiFault};
 pub use joined::join;
 pub use list::{write_multi, write_multi_kept};
 pub use multi::{Multi, decode_multi};
+pub use multi_feed::MultiFeed;
 pub use part::Part;

@@ -74,7 +74,7 @@ pub fn decode_multi(alloc: Global, bytes: &[u8], streams: u8) -> Result<Multi<'_
 }
 
 // The bytes behind so many.
-fn behind(bytes: &[u8], at: usize) -> &[u8]
+pub(crate) fn behind(bytes: &[u8], at: usize) -> &[u8]
     requires { at ≤ length bytes.now }
     ensures { result.now ≡ drop at bytes.now }
 {

@@ -17,7 +17,7 @@ pub loop-k-preserved : goal.loop-k-preserved
 loop-k-preserved c =
     let r = c.in-Ok.read in
     rw (c.behind-rest.ensures, c.in-Ok-push.ensures.items)
-    (read_more c.loop-k.k r.used c.args.bytes.now c.loop-k.rest.now c.loop-k.durations c.add.new.self c.loop-k.packets.items r.packet c.in-Ok.ensures.found.within c.in-Ok.ensures.size c.in-Ok.ensures.tail (rw c.duration.ensures.duration at rw c.from.ensures at c.add.ensures) c.loop-k.invariant)
+    (read_more c.loop-k.k r.used c.args.bytes.now c.loop-k.rest.now c.loop-k.durations c.add.new.self c.loop-k.packets.items r.packet c.in-Ok.ensures.found.within c.in-Ok.ensures.size c.in-Ok.ensures.tail (rw c.duration.ensures.duration at rw c.from.ensures at c.add.ensures.told) c.loop-k.invariant)
 
 pub returns-clause-fault : goal.returns-clause-fault
 returns-clause-fault c =
