@@ -1,7 +1,7 @@
 -- What stands at the front of an `opus_demo` store, and lemmas for a loop over its payload.
 use Rattle.std.proofs.Common.{◌≡◌, ℕ, zero, suc, ◌+◌, ◌-◌, ◌^◌, ◌<◌, ◌≤◌, List, [], ◌∷◌, ◌++◌, length, length-append, length-take, length-drop, take, drop, drop-drop, take-append-drop, get_or, refl, sym, ap, ◌∙◌, append_assoc, arith}
 use Rattle.std.proofs.lemmas.List.{length-take-le, drop_min}
-use Rattle.std.proofs.lemmas.Nat.{from_be_bytes-to_be_bytes_4, be_bytes_4}
+use Rattle.std.proofs.lemmas.Nat.{from_be_bytes-to_be_bytes_4}
 use Rattle.std.proofs.KnownBytes.{Consumes-trans, prepend_known-read}
 use Rattle.std.specs.declared.option.Option.{Option}
 use Rattle.std.specs.List.{AllByRecursion}
@@ -9,6 +9,7 @@ use Rattle.std.specs.Int.{w32, to_be_bytes, from_be_bytes}
 use Rattle.std.specs.Io.KnownBytes.{Consumes, Keeps}
 use Rattle.opus_io.specs.Reader.{ReaderState, coming}
 use Rattle.rec_store.specs.DemoStore.{demo_head, demo_record, IsDemoRecord, NoWholeRecord}
+use Rattle.rec_store.proofs.ByteLemmas.{AreBytes-take, AreBytes-drop, number_of}
 
 -- two fronts of one length
 pub fronts_same : (a b xs ys : List ℕ) → length a ≡ length b → a ++ xs ≡ b ++ ys → (a ≡ b) × (xs ≡ ys)
@@ -80,36 +81,14 @@ demo_record-whole len range body p q enough =
           ∙ ap (λ l. (l ++ take len body) ++ drop len body) (sym head),
     )
 
--- four bytes are a number
-number_of : (bs : List ℕ) → length bs ≡ 4 → ((i : ℕ) → get_or bs i 0 < 256)
-    → (n : ℕ) × (n < 2 ^ 32) × (to_be_bytes w32 n ≡ bs)
-number_of bs size small =
-    let n = from_be_bytes w32 bs in
-    (n, omega (arith, small 0, small 1, small 2, small 3), be_bytes_4 bs n size small refl)
-
-byte-at : (bs : List ℕ) → AllByRecursion (λ byte. byte < 256) bs → (i : ℕ) → get_or bs i 0 < 256
-byte-at [] bytes i = omega arith
-byte-at (b ∷ bs) bytes zero = bytes.0
-byte-at (b ∷ bs) bytes (suc i) = byte-at bs bytes.1 i
-
-bytes-take : (n : ℕ) (bs : List ℕ) → AllByRecursion (λ byte. byte < 256) bs → AllByRecursion (λ byte. byte < 256) (take n bs)
-bytes-take zero bs bytes = tt
-bytes-take (suc n) [] bytes = tt
-bytes-take (suc n) (b ∷ bs) bytes = (bytes.0, bytes-take n bs bytes.1)
-
-bytes-drop : (n : ℕ) (bs : List ℕ) → AllByRecursion (λ byte. byte < 256) bs → AllByRecursion (λ byte. byte < 256) (drop n bs)
-bytes-drop zero bs bytes = bytes
-bytes-drop (suc n) [] bytes = tt
-bytes-drop (suc n) (b ∷ bs) bytes = bytes-drop n bs bytes.1
-
 -- eight bytes are a head
 pub demo_head-of : (bytes : List ℕ) → AllByRecursion (λ byte. byte < 256) bytes → 8 ≤ length bytes
     → (len range : ℕ) × (len < 2 ^ 32) × (range < 2 ^ 32) × (bytes ≡ demo_head len range ++ drop 8 bytes)
 demo_head-of bytes are long =
     let rest = drop 4 bytes in
     let size : length rest ≡ length bytes - 4 = length-drop 4 bytes in
-    let first = number_of (take 4 bytes) (length-take-le 4 bytes (omega arith)) (byte-at (take 4 bytes) (bytes-take 4 bytes are)) in
-    let second = number_of (take 4 rest) (length-take-le 4 rest (omega arith)) (byte-at (take 4 rest) (bytes-take 4 rest (bytes-drop 4 bytes are))) in
+    let first = number_of (take 4 bytes) (length-take-le 4 bytes (omega arith)) (AreBytes-take 4 bytes are) in
+    let second = number_of (take 4 rest) (length-take-le 4 rest (omega arith)) (AreBytes-take 4 rest (AreBytes-drop 4 bytes are)) in
     let behind : drop 4 rest ≡ drop 8 bytes = drop-drop 4 4 bytes in
     let len = to_be_bytes w32 first.0 in
     let range = to_be_bytes w32 second.0 in (

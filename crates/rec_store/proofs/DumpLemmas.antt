@@ -5,7 +5,7 @@ use Rattle.rec_store.specs.Dump.{DumpRecord, IsDumpRecord, dump_record_head, dum
 use Rattle.rec_store.proofs.DemoLemmas.{fronts_same, number_same}
 
 -- two bytes spell one number
-short_same : (m n : ℕ) → m < 2 ^ 16 → n < 2 ^ 16 → to_be_bytes w16 m ≡ to_be_bytes w16 n → m ≡ n
+pub short_same : (m n : ℕ) → m < 2 ^ 16 → n < 2 ^ 16 → to_be_bytes w16 m ≡ to_be_bytes w16 n → m ≡ n
 short_same m n p q e =
     let high : m / 256 % 256 ≡ n / 256 % 256 = cc in
     let low : m % 256 ≡ n % 256 = cc in

@@ -1,4 +1,13 @@
+pub mod ByteLemmas
+pub mod CaptureFacts
 pub mod DemoLemmas
 pub mod DumpLemmas
+pub mod FaultLemmas
 pub mod HeadLemmas
+pub mod ItemLemmas
+pub mod LineLemmas
+pub mod LineSteps
+pub mod PartLemmas
+pub mod RecordLemmas
+pub mod StoreLemmas
 pub mod StandardFacts

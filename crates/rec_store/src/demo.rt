@@ -1,6 +1,5 @@
 //! The reader of an `opus_demo` store.
 ghost use Rattle.std.specs.Prelude.{◌≡◌, ◌≢◌, ◌↔◌, ◌+◌, ◌-◌, ◌≤◌, [], length, drop, true, IsOk};
-ghost use Rattle.std.specs.Int.{w32, to_be_bytes};
 ghost use Rattle.std.specs.Io.BufRead.{Rests};
 ghost use Rattle.std.specs.Borrow.{sem};
 ghost use Rattle.opus_io.specs.contracts.reader.Reader.{the_row};
@@ -9,9 +8,9 @@ ghost use Rattle.rec_store.specs.DemoStore.{demo_head};
 ghost use Rattle.rec_store.specs.DemoReader.{DemoState, DemoNext, StoreCause, left_after, PieceLooked};
 ghost use Rattle.rec_store.specs.HeadBytes.{TakesHead};
 
+use crate::numbers::read_number;
 use crate::{StoreFault, StoreStop};
 use arrayvec::ArrayVec;
-use byteorder::{BigEndian, ByteOrder};
 use opus_io::{InStop, Reader, Source};
 use std::marker::Model;
 
@@ -22,6 +21,20 @@ pub struct DemoHead {
     pub len: u32,
     /// The final range of the coder.
     pub range: u32,
+}
+
+impl DemoHead {
+    /// The head that eight bytes spell.
+    #[inline(always)]
+    pub fn read(bytes: &[u8]) -> DemoHead
+        requires { length bytes.now ≡ 8 }
+        ensures { demo_head result.len result.range ≡ bytes.now }
+    {
+        DemoHead {
+            len: read_number(&bytes[..4]),
+            range: read_number(&bytes[4..]),
+        }
+    }
 }
 
 /// Reads the records of an `opus_demo` store one after the other: a head, and then the payload in
@@ -150,7 +163,7 @@ fn read_head<S: Source>(input: &mut Reader, source: &mut S) -> Result<Option<Dem
     }
     match head.len() {
         0 => Ok(None),
-        8 => Ok(Some(head_of(head.as_slice()))),
+        8 => Ok(Some(DemoHead::read(head.as_slice()))),
         _ => Err(StoreStop::Fault(StoreFault::StoreCut(input.passed()))),
     }
 }
@@ -181,23 +194,4 @@ fn take_head<S: Source>(
         input.pass(count);
     }
     Ok(())
-}
-
-// The head that eight bytes spell.
-fn head_of(bytes: &[u8]) -> DemoHead
-    requires { length bytes.now ≡ 8 }
-    ensures { demo_head result.len result.range ≡ bytes.now }
-{
-    DemoHead {
-        len: read_number(&bytes[..4]),
-        range: read_number(&bytes[4..]),
-    }
-}
-
-// The number that four bytes spell.
-fn read_number(bytes: &[u8]) -> u32
-    requires { length bytes.now ≡ 4 }
-    ensures { to_be_bytes w32 result ≡ bytes.now }
-{
-    BigEndian::read_u32(bytes)
 }

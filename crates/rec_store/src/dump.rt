@@ -2,11 +2,12 @@
 ghost use Rattle.std.specs.Prelude.{◌≡◌, ◌+◌, ◌<◌, ◌≤◌, ◌++◌, length, vec_len, vec_capacity, OnOk, OnErr};
 ghost use Rattle.rec_store.specs.Dump.{dump_head_bytes, dump_record_head, dump_record_bytes, record_of_packet};
 
+use crate::dump_line::MARK;
 use byteorder::{BigEndian, ByteOrder};
 use opus_io::NoMemory;
 
-// The first line, with no address and port 0.
-const LINE: [u8; 23] = *b"#!rtpplay1.0 0.0.0.0/0\n";
+// What follows the mark in the first line: no address and port 0.
+const NOWHERE: [u8; 10] = *b"0.0.0.0/0\n";
 
 /// Appends what stands before the records of a capture: the first line, with address 0.0.0.0 and port 0, and 16 zero
 /// bytes for when and where it was made. Where there is no memory, `out` is left as it was.
@@ -17,8 +18,9 @@ pub fn dump_head(out: &mut Vec<u8>) -> Result<(), NoMemory>
         (vec_capacity out.old < vec_len out.old + length dump_head_bytes) }
     ensures capacity { vec_capacity out.old ≤ vec_capacity out.new }
 {
-    out.reserve(LINE.len() + 16)?;
-    out.extend_from_slice(&LINE).unwrap();
+    out.reserve(MARK.len() + NOWHERE.len() + 16)?;
+    out.extend_from_slice(&MARK).unwrap();
+    out.extend_from_slice(&NOWHERE).unwrap();
     out.extend_from_slice(&[0; 16]).unwrap();
     Ok(())
 }

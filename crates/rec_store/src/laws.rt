@@ -1,8 +1,11 @@
 //! Laws on stores: each is the contract of a function that does nothing.
-ghost use Rattle.std.specs.Prelude.{◌≡◌, ◌^◌, ◌<◌, ◌≤◌, ℕ, List, ◌++◌, length, take, drop};
+ghost use Rattle.std.specs.Prelude.{◌≡◌, ◌↔◌, ◌⊎◌, ◌^◌, ◌<◌, ◌≤◌, ℕ, List, ◌++◌, length, take, drop};
 ghost use Rattle.std.specs.List.{AllByRecursion};
 ghost use Rattle.rec_store.specs.DemoStore.{demo_head, demo_record, IsDemoRecord, NoWholeRecord};
 ghost use Rattle.rec_store.specs.Dump.{DumpRecord, IsDumpRecord, dump_record_bytes, IsRtcp, IsCut, packet_of_record, record_of_packet};
+ghost use Rattle.rec_store.specs.DumpLine.{IsBadLine};
+ghost use Rattle.rec_store.specs.DumpStore.{AreBytes, IsDump, IsStoreCut, IsOpeningPart, IsRecordCut, IsBadLength, IsDumpHead};
+ghost use Rattle.rec_store.specs.declared.dump_opening.DumpHead.{DumpHead as HeadValue};
 
 /// The same bytes begin with one record at most.
 pub fn bytes_begin_with_one_record()
@@ -54,4 +57,43 @@ pub fn a_written_dump_record_has_its_packet()
         → IsRtcp (record_of_packet offset packet) → ⊥ }
     ensures whole { (offset : ℕ) (packet : List ℕ)
         → IsCut (record_of_packet offset packet) → ⊥ }
+{}
+
+/// Sixteen bytes are a head of a capture.
+pub fn sixteen_bytes_are_a_dump_head()
+    ensures { (bytes : List ℕ) → AreBytes bytes → length bytes ≡ 16
+        → (head : HeadValue) × IsDumpHead head bytes }
+{}
+
+/// The same bytes are a capture with one head and one list of records at most.
+pub fn a_capture_has_one_reading()
+    ensures head { (x : List ℕ) (a b : HeadValue) (rs ss : List DumpRecord) → IsDump x a rs → IsDump x b ss
+        → a ≡ b }
+    ensures records { (x : List ℕ) (a b : HeadValue) (rs ss : List DumpRecord) → IsDump x a rs → IsDump x b ss
+        → rs ≡ ss }
+{}
+
+/// A capture is cut exactly where its bytes end within its opening or within a record.
+pub fn a_cut_capture_ends_within_a_part()
+    ensures { (x : List ℕ) → IsStoreCut x ↔ (IsOpeningPart x ⊎ IsRecordCut x) }
+{}
+
+/// A first line that goes wrong goes wrong at one place, whatever follows. Nothing behind it makes the bytes a
+/// capture, so they are no cut one.
+pub fn a_bad_line_stays_bad()
+    ensures longer { (x more : List ℕ) (place : ℕ) → IsBadLine x place → IsBadLine (x ++ more) place }
+    ensures once { (x : List ℕ) (a b : ℕ) → IsBadLine x a → IsBadLine x b → a ≡ b }
+    ensures no_capture { (x more : List ℕ) (place : ℕ) (head : HeadValue) (rs : List DumpRecord)
+        → IsBadLine x place → IsDump (x ++ more) head rs → ⊥ }
+    ensures no_cut { (x : List ℕ) (place : ℕ) → IsBadLine x place → IsStoreCut x → ⊥ }
+{}
+
+/// The same of a record's length that is below 8.
+pub fn a_bad_length_stays_bad()
+    ensures longer { (x more : List ℕ) (place : ℕ) → IsBadLength x place → IsBadLength (x ++ more) place }
+    ensures once { (x : List ℕ) (a b : ℕ) → IsBadLength x a → IsBadLength x b → a ≡ b }
+    ensures no_capture { (x more : List ℕ) (place : ℕ) (head : HeadValue) (rs : List DumpRecord)
+        → IsBadLength x place → IsDump (x ++ more) head rs → ⊥ }
+    ensures no_cut { (x : List ℕ) (place : ℕ) → IsBadLength x place → IsStoreCut x → ⊥ }
+    ensures no_bad_line { (x : List ℕ) (a b : ℕ) → IsBadLine x a → IsBadLength x b → ⊥ }
 {}

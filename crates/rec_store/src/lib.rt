@@ -6,7 +6,11 @@
 
 mod demo;
 mod dump;
+mod dump_item;
+mod dump_line;
+mod dump_opening;
 pub mod laws;
+mod numbers;
 mod record;
 mod stop;
 #[cfg(test)]
@@ -14,5 +18,10 @@ mod tests;
 
 pub use demo::{DemoHead, DemoReader};
 pub use dump::{dump_head, dump_record};
+pub use dump_item::{
+    DumpItem, DumpKind, DumpRecordHead, DumpTold, dump_record_length, read_dump_record,
+};
+pub use dump_line::{LineStep, line_step};
+pub use dump_opening::{DUMP_HEAD_LEN, DumpHead};
 pub use record::{demo_head, demo_record};
 pub use stop::{StoreFault, StoreStop};
