@@ -49,7 +49,7 @@ impl Job {
             JobKind::Check => self.is_of_streams(1),
             JobKind::Show => false,
             JobKind::Merge => false,
-            JobKind::Split => false,
+            JobKind::Split => true,
             JobKind::Pad => false,
             JobKind::Apart => false,
             JobKind::Join => false,

@@ -1,4 +1,4 @@
-//! Words and what they stand for. Only norm and check of one stream are done so far.
+//! Words and what they stand for. norm and check of one stream and split are done so far.
 use crate::table::Lack;
 use crate::{Form, Job, JobKind, Opt, WordsFault, job_of};
 use opus_feed::Padding;
@@ -137,7 +137,6 @@ norm --streams 2 = NotBuilt
 check --streams 2 = NotBuilt
 show --form self = NotBuilt
 merge --group 48 = NotBuilt
-split --frames 48 = NotBuilt
 pad --size 33554431 = NotBuilt
 apart --streams 255 = NotBuilt
 join --streams 1 = NotBuilt

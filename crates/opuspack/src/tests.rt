@@ -10,6 +10,7 @@ use std::test::Fail;
 mod check;
 mod norm;
 mod outside;
+mod split;
 mod words;
 
 /// An input, and the output of a run that ends well.
@@ -91,8 +92,8 @@ pub(crate) fn status_of(
     Ok(if met { Some(status) } else { None })
 }
 
-// Whether a run ends so with reads of one byte, of three and of 4,096.
-fn is_met(
+/// Whether a run ends so with reads of one byte, of three and of 4,096.
+pub(crate) fn is_met(
     alloc: Global,
     words: &[&'static str],
     input: &[u8],

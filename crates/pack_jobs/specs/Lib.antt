@@ -5,6 +5,9 @@ pub mod NormStands
 pub mod Check
 pub mod CheckStands
 pub mod Written
+pub mod Each
+pub mod Split
+pub mod SplitStands
 pub mod SameRecords
 pub mod PackEnds
 pub mod Again

@@ -1,5 +1,5 @@
 -- Which jobs `pack_job` does, and what it answers for each.
-use Rattle.std.specs.Prelude.{◌≡◌, ◌+◌, ℕ, List, [], Some, IfSome, IsSome, unwrap_or, Option}
+use Rattle.std.specs.Prelude.{◌≡◌, ◌+◌, ℕ, List, [], IfSome, IsSome, unwrap_or, Option, max}
 use Rattle.opus_io.specs.Cause.{RoseWhere}
 use Rattle.opus_io.specs.Outside.{Outside}
 use Rattle.job_loop.specs.Shown.{Shown}
@@ -15,7 +15,7 @@ use Rattle.opus_feed.specs.declared.padding.Padding.TheVariants.{Drop}
 use Rattle.opus_words.specs.declared.form.Form.{Form}
 use Rattle.opus_words.specs.declared.form.Form.TheVariants.{Raw, Demo, SelfDelimited}
 use Rattle.opus_words.specs.declared.kind.JobKind.{JobKind}
-use Rattle.opus_words.specs.declared.kind.JobKind.TheVariants.{Norm, Check}
+use Rattle.opus_words.specs.declared.kind.JobKind.TheVariants.{Norm, Check, Split}
 use Rattle.opus_words.specs.declared.job.Job.{Job}
 use Rattle.opus_words.specs.declared.ending.Ending.{Ending}
 use Rattle.opus_words.specs.declared.ending.Ending.TheVariants.{Ok, Refused, ReadFault, WriteFault, NoMemory, InputLimit}
@@ -28,18 +28,20 @@ use Rattle.pack_jobs.specs.declared.refusal.Refusal.{Refusal}
 use Rattle.pack_jobs.specs.Refusal.{Tells}
 use Rattle.pack_jobs.specs.Norm.{norm}
 use Rattle.pack_jobs.specs.Check.{check}
+use Rattle.pack_jobs.specs.Split.{split}
 
 -- the jobs over packets
 abbrev pub IsPackKind : JobKind → Type 0
 IsPackKind Norm = Unit {0}
 IsPackKind Check = Unit {0}
+IsPackKind Split = Unit {0}
 IsPackKind kind = ⊥
 
--- one of them, over the packets of one stream
+-- one of them, over the packets of one stream, which most jobs don't name
 pub record IsPackJob (job : Job) : Type 0 where
   pub kind : IsPackKind job.kind
   pub form : IsSome job.form
-  pub streams : job.streams ≡ Some 1
+  pub streams : IfSome job.streams (λ n. n ≡ 1)
 
 -- the form of the input, and what becomes of padding bytes: they are dropped where the job takes no such option
 abbrev pub form_in : Job → Form
@@ -47,6 +49,10 @@ form_in job = unwrap_or job.form Raw
 
 abbrev pub padding_in : Job → Padding
 padding_in job = unwrap_or job.padding Drop
+
+-- the frames of a piece: one at least, also where the job takes no such option
+abbrev pub most_in : Job → ℕ
+most_in job = max 1 (unwrap_or job.frames 1)
 
 -- the program's ending tells this one
 abbrev pub TellsEnding : Ending → loop.Ending Refusal → Type 0
@@ -96,6 +102,7 @@ abbrev pub KindEnds : JobKind → Job → (List ℕ → List (Shown Item) → Ty
     → (List ℕ → List (Shown Item) → Option Cut → Type 0) → ℕ → Outside → Outside → Type 0 → Ending → Type 0
 KindEnds Norm job = MeaningEnds (norm (form_in job) (padding_in job))
 KindEnds Check job = MeaningEnds (check (form_in job))
+KindEnds Split job = MeaningEnds (split (form_in job) (most_in job))
 KindEnds kind job = λ Settles Ends limit before after Untouched result. ⊥
 
 -- the job ended as its meaning has it, where Settles and Ends say which records its input has

@@ -1,4 +1,5 @@
 //! Laws on the jobs over packets: each is the contract of a function that does nothing.
+ghost use Rattle.std.specs.List.{AllByRecursion};
 ghost use Rattle.std.specs.Prelude.{◌≡◌, ◌≢◌, ◌↔◌, ◌≤◌, ◌<◌, ◌^◌, ℕ, List, [], ◌∷◌, ◌++◌, Some, None, length, flat_map};
 ghost use Rattle.job_loop.specs.Shown.{Shown};
 ghost use Rattle.job_loop.specs.Meaning.{going, broke, outcome, run_text};
@@ -6,6 +7,7 @@ ghost use Rattle.job_loop.specs.declared.input_end.InputEnd.{InputEnd};
 ghost use Rattle.job_loop.specs.declared.input_end.InputEnd.TheVariants as ends;
 ghost use Rattle.opus_packet.specs.Value.{PacketValue, IsPacketValue};
 ghost use Rattle.opus_packet.specs.Tail.{max_tail};
+ghost use Rattle.opus_repack.specs.Joined.{IsSameKind};
 ghost use Rattle.opus_feed.specs.declared.framing.Framing.{Framing};
 ghost use Rattle.opus_feed.specs.declared.padding.Padding.{Padding};
 ghost use Rattle.opus_words.specs.declared.form.Form.{Form};
@@ -20,6 +22,8 @@ ghost use Rattle.pack_jobs.specs.Norm.{norm};
 ghost use Rattle.pack_jobs.specs.Check.{check};
 ghost use Rattle.pack_jobs.specs.Written.{normal_record, AreTaken, FirstRefused, AreGood, FirstBad, lines_from, IsUncut};
 ghost use Rattle.pack_jobs.specs.SameRecords.{AreRecordsOf, AgreeOneByOne};
+ghost use Rattle.pack_jobs.specs.Each.{Made, each, texts_from, AreWritten, FirstRefusedBy};
+ghost use Rattle.pack_jobs.specs.Split.{pieces, split_record, split, HasFullPieces};
 ghost use Rattle.pack_jobs.specs.PackEnds.{ends_in};
 ghost use Rattle.pack_jobs.specs.Again.{IsReadAgain};
 
@@ -61,6 +65,41 @@ pub fn check_names_the_first_fault()
         → outcome (check form) rs ends.Closed ≡ going (lines_from 0 rs) tt }
     ensures past { (form : Form) (rs : List (Shown Item)) → form ≢ SelfDelimited
         → outcome (check form) rs ends.Past ≡ going (lines_from 0 rs) tt }
+{}
+
+/// A job that makes something of each record by itself has written what it makes of all of them, exactly where it refuses
+/// none and no cut follows. Refused, it has written what it makes of the records before the refused one, or of all.
+pub fn a_job_on_each_record_writes_them_in_order()
+    ensures written { (made : ℕ → Shown Item → Made) (rs : List (Shown Item)) (end : InputEnd Cut)
+        (text : List ℕ) → (outcome (each made) rs end ≡ going text tt)
+        ↔ (AreWritten made 0 rs × IsUncut end × (text ≡ texts_from made 0 rs)) }
+    ensures refused { (made : ℕ → Shown Item → Made) (rs : List (Shown Item)) (end : InputEnd Cut) (f : Refusal)
+        (at : FirstRefusedBy made rs f) → outcome (each made) rs end ≡ broke (texts_from made 0 at.before) f }
+    ensures cut { (made : ℕ → Shown Item → Made) (rs : List (Shown Item)) (c : Cut) → AreWritten made 0 rs
+        → outcome (each made) rs (ends.Cut c)
+        ≡ broke (texts_from made 0 rs) (refusal_of (told (length rs)) c.place StoreCut) }
+{}
+
+/// What split writes is the pieces of each packet, and each lost record, up to the first record that holds no packet.
+pub fn split_writes_the_pieces_of_each_packet()
+    ensures written { (form : Form) (most : ℕ) (rs : List (Shown Item)) (end : InputEnd Cut) (text : List ℕ)
+        → (outcome (split form most) rs end ≡ going text tt)
+        ↔ (AreGood rs × IsUncut end × (text ≡ flat_map (split_record form most) rs)) }
+    ensures refused { (form : Form) (most : ℕ) (rs : List (Shown Item)) (end : InputEnd Cut) (f : Refusal)
+        (at : FirstBad rs f) → outcome (split form most) rs end ≡ broke (flat_map (split_record form most) at.before) f }
+    ensures cut { (form : Form) (most : ℕ) (rs : List (Shown Item)) (c : Cut) → AreGood rs
+        → outcome (split form most) rs (ends.Cut c)
+        ≡ broke (flat_map (split_record form most) rs) (refusal_of (told (length rs)) c.place StoreCut) }
+{}
+
+/// The pieces of a packet are packets of its kind, of so many frames each, the last one of as many at most, and have
+/// all of its frames in order.
+pub fn pieces_keep_all_frames()
+    ensures frames { (most : ℕ) (v : PacketValue) → 1 ≤ most → flat_map (λ p. p.frames) (pieces most v) ≡ v.frames }
+    ensures kind { (most : ℕ) (v : PacketValue) → AllByRecursion (IsSameKind v) (pieces most v) }
+    ensures packets { (most : ℕ) (v : PacketValue) → 1 ≤ most → IsPacketValue v
+        → AllByRecursion IsPacketValue (pieces most v) }
+    ensures counts { (most : ℕ) (v : PacketValue) → 1 ≤ most → HasFullPieces most (pieces most v) }
 {}
 
 /// Two inputs that norm takes have one output exactly where their records agree one by one: in range, in what is lost,

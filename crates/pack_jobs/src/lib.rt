@@ -10,6 +10,7 @@ mod norm;
 mod pack;
 mod record;
 mod refusal;
+mod split;
 #[cfg(test)]
 mod tests;
 mod text;
@@ -18,4 +19,5 @@ pub use check::Check;
 pub use norm::Norm;
 pub use pack::pack_job;
 pub use refusal::{Refusal, Why};
+pub use split::Split;
 pub use text::{decimal_text, fault_text};

@@ -2,11 +2,12 @@
 ghost use Rattle.std.specs.Prelude.{◌≡◌, ◌^◌, ◌≤◌, [], IfOk};
 ghost use Rattle.job_loop.specs.Shown.{Shown};
 ghost use Rattle.job_loop.specs.Meaning.{Meaning};
-ghost use Rattle.pack_jobs.specs.PackEnds.{IsPackKind, IsPackJob, PackEnds, JobEnds, MeaningEnds, TellsEnding, seen_as, place_of, form_in, padding_in};
+ghost use Rattle.pack_jobs.specs.PackEnds.{IsPackKind, IsPackJob, PackEnds, JobEnds, MeaningEnds, TellsEnding, seen_as, place_of, form_in, padding_in, most_in};
 
 use crate::check::Check;
 use crate::norm::Norm;
 use crate::refusal::Refusal;
+use crate::split::Split;
 use crate::text::job_fault;
 use job_loop::{Ending as LoopEnding, Form as RecordForm, RecordJob, run_job};
 use opus_feed::Padding;
@@ -27,6 +28,14 @@ fn padding_in(job: &Job) -> Padding
     ensures { result ≡ padding_in job.now }
 {
     job.padding.unwrap_or(Padding::Drop)
+}
+
+// The frames of a piece.
+fn most_in(job: &Job) -> usize
+    ensures is { result ≡ most_in job.now }
+    ensures some { 1 ≤ result }
+{
+    usize::from(job.frames.unwrap_or(1).max(1))
 }
 
 /// Does a job over packets: reads `source` up to `limit` bytes, from 1 to 2^40, and writes to `out`.
@@ -133,6 +142,10 @@ where
         JobKind::Check => {
             let mut check = Check::new(form);
             run_ended(alloc, limit, records, &mut check, source, out)
+        }
+        JobKind::Split => {
+            let split = Split::new(alloc, form, most_in(job));
+            run_made(alloc, limit, records, split, source, out)
         }
         _ => unreachable!(),
     }

@@ -29,7 +29,7 @@ type Settled = (
     &'static [usize],
 );
 
-static SETTLED: [Settled; 4] = [
+static SETTLED: [Settled; 5] = [
     (
         NORM,
         b"\xfa\x02\xaa\xbb\xcc\xdd",
@@ -50,6 +50,12 @@ static SETTLED: [Settled; 4] = [
             0, 0, 0, 0, 0, 0, 0, 0, 0, 0, 10, 10, 10, 10, 10, 10, 10, 10, 10, 10, 20, 20, 20, 20,
             20, 20, 20, 20, 20, 20, 30,
         ],
+    ),
+    (
+        &["split", "--frames", "2"],
+        b"\x00\x00\x00\x05\x00\x00\x00\x07\xfb\x03\xaa\xbb\xcc",
+        b"\x00\x00\x00\x03\x00\x00\x00\x00\xf9\xaa\xbb\x00\x00\x00\x02\x00\x00\x00\x07\xf8\xcc",
+        &[0, 0, 0, 0, 0, 0, 0, 0, 0, 0, 0, 0, 0, 21],
     ),
     (
         CHECK,
