@@ -17,7 +17,7 @@ mod text;
 
 pub use check::Check;
 pub use norm::Norm;
-pub use pack::pack_job;
-pub use refusal::{Refusal, Why};
+pub use pack::{pack_job, run_made};
+pub use refusal::{Refusal, Why, refusal_at};
 pub use split::Split;
 pub use text::{decimal_text, fault_text};

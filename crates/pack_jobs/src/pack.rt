@@ -179,8 +179,9 @@ where
     ending_of(run_job(alloc, limit, records, job, source, out))
 }
 
-// Runs a job whose own memory was taken before, if there was some.
-fn run_made<F, J, S, O>(
+/// Runs a job over records of a form, which was fed nothing yet, and ends as the program does. The job's own memory was
+/// taken before, if there was some.
+pub fn run_made<F, J, S, O>(
     alloc: Global,
     limit: u64,
     records: F,

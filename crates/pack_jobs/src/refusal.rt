@@ -28,7 +28,7 @@ pub struct Refusal {
 }
 
 /// The refusal for a record of this number that holds no packet, for this fault.
-pub(crate) fn refusal_at(index: u64, item: &Item, fault: Fault) -> Refusal
+pub fn refusal_at(index: u64, item: &Item, fault: Fault) -> Refusal
     ensures { result ≡ refusal_at index item.now fault }
 {
     Refusal {

@@ -1,0 +1,4 @@
+pub mod Capture
+pub mod Send
+pub mod SendStands
+pub mod NetEnds

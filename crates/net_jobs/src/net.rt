@@ -1,0 +1,80 @@
+//! The jobs over RTP, by their kinds.
+ghost use Rattle.std.specs.Prelude.{◌≡◌, ◌<◌, ◌≤◌, ◌^◌, [], IfSome};
+ghost use Rattle.opus_feed.specs.declared.padding.Padding.TheVariants.{Drop};
+ghost use Rattle.rtp_ends.specs.Sends.{SenderStands};
+ghost use Rattle.pack_records.specs.Demo.{DemoSettles, DemoEnds};
+ghost use Rattle.pack_jobs.specs.PackEnds.{MeaningEnds, seen_as};
+ghost use Rattle.net_jobs.specs.Send.{send};
+ghost use Rattle.net_jobs.specs.NetEnds.{IsNetJob, NetEnds, first_in};
+
+use crate::send::SendJob;
+use opus_feed::Padding;
+use opus_io::{NoMemory, Sink, Source};
+use opus_words::{Ending, Job, JobKind};
+use pack_jobs::run_made;
+use pack_records::DemoForm;
+use rtp_ends::Sender;
+use std::alloc::Global;
+
+/// Does a job over RTP: reads `source` up to `limit` bytes, from 1 to 2^40, and writes to `out`.
+///
+/// What the bytes read settle is written before the next read. All memory is taken before the first read.
+pub fn net_job<S: Source, O: Sink>(
+    alloc: Global,
+    job: &Job,
+    limit: u64,
+    source: &mut S,
+    out: &mut O,
+) -> Ending
+    requires some { 1 ≤ limit }
+    requires most { limit ≤ 2 ^ 40 }
+    requires job { IsNetJob job.now }
+    ensures { NetEnds job.now limit
+        (seen_as (S.left source.old) (S.faults source.old) (O.contents out.old) (O.faults out.old) (O.refusals out.old))
+        (seen_as (S.left source.new) (S.faults source.new) (O.contents out.new) (O.faults out.new) (O.refusals out.new))
+        (source.new ≡ source.old) result }
+{
+    match job.kind {
+        JobKind::Send => run_send(alloc, sender_in(job), limit, source, out),
+        _ => unreachable!(),
+    }
+}
+
+// The sender that the options ask for.
+fn sender_in(job: &Job) -> Sender
+    requires { IfSome job.now.pt (λ n. n < 2 ^ 7) }
+    ensures first { result.first ≡ first_in job.now }
+    ensures stands { SenderStands result [] }
+{
+    Sender::new(
+        job.seq.unwrap_or(0),
+        job.stamp.unwrap_or(0),
+        job.ssrc.unwrap_or(0),
+        job.pt.unwrap_or(96),
+    )
+}
+
+// Runs the job send with this sender, which was given nothing yet.
+fn run_send<S: Source, O: Sink>(
+    alloc: Global,
+    sender: Sender,
+    limit: u64,
+    source: &mut S,
+    out: &mut O,
+) -> Ending
+    requires some { 1 ≤ limit }
+    requires most { limit ≤ 2 ^ 40 }
+    requires stands { SenderStands sender [] }
+    ensures { MeaningEnds (send sender.first) (DemoSettles Drop) (DemoEnds Drop) limit
+        (seen_as (S.left source.old) (S.faults source.old) (O.contents out.old) (O.faults out.old) (O.refusals out.old))
+        (seen_as (S.left source.new) (S.faults source.new) (O.contents out.new) (O.faults out.new) (O.refusals out.new))
+        (source.new ≡ source.old) result }
+{
+    match DemoForm::new(alloc, Padding::Drop) {
+        Ok(records) => {
+            let job = SendJob::new(alloc, sender);
+            run_made(alloc, limit, records, job, source, out)
+        }
+        Err(NoMemory) => Ending::NoMemory,
+    }
+}
