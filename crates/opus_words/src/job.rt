@@ -55,7 +55,7 @@ impl Job {
             JobKind::Join => false,
             JobKind::Extract => false,
             JobKind::Head => false,
-            JobKind::Send => false,
+            JobKind::Send => true,
             JobKind::Recv => false,
             JobKind::Replay => false,
             JobKind::Sdp => false,

@@ -1,4 +1,4 @@
-//! Words and what they stand for. norm and check of one stream and split are done so far.
+//! Words and what they stand for. norm and check of one stream, split and send are done so far.
 use crate::table::Lack;
 use crate::{Form, Job, JobKind, Opt, WordsFault, job_of};
 use opus_feed::Padding;
@@ -59,6 +59,31 @@ fn takes_norm_with_its_options_in_any_order(rt: HostRuntime) -> Result<(), Fail>
     checked.padding = None;
     checked.form = Some(Form::Demo);
     assert_eq!(rt; answer(rt.alloc(), "check --form=demo")?, Ok(checked));
+    Ok(())
+}
+
+const SEND: Job = Job {
+    kind: JobKind::Send,
+    form: None,
+    streams: None,
+    pt: Some(96),
+    seq: Some(0),
+    stamp: Some(0),
+    ssrc: Some(0),
+    padding: None,
+    ..NORM
+};
+
+#[test]
+fn takes_send_with_defaults_and_greatest_numbers(rt: HostRuntime) -> Result<(), Fail> {
+    assert_eq!(rt; answer(rt.alloc(), "send")?, Ok(SEND));
+    let mut most = SEND;
+    most.pt = Some(127);
+    most.seq = Some(65_535);
+    most.stamp = Some(4_294_967_295);
+    most.ssrc = Some(4_294_967_295);
+    let line = "--pt 127 --seq 65535 send --stamp=4294967295 --ssrc 4294967295";
+    assert_eq!(rt; answer(rt.alloc(), line)?, Ok(most));
     Ok(())
 }
 
@@ -142,7 +167,6 @@ apart --streams 255 = NotBuilt
 join --streams 1 = NotBuilt
 extract --streams 255 --stream 254 = NotBuilt
 head = NotBuilt
-send --pt 127 --seq 65535 --stamp 4294967295 --ssrc 4294967295 = NotBuilt
 recv --pt 0 --ssrc 0 = NotBuilt
 replay = NotBuilt
 sdp = NotBuilt

@@ -1,9 +1,9 @@
--- The jobs that are done by `pack_job`, and a run that found no memory before it began.
-use Rattle.std.proofs.Common.{◌≡◌, ℕ, ◌==◌, Option, Result, Some, None, IfSome, Ok, Err, true, false, refl, sym, subst, eqb-true}
+-- Which call does a job, and a run that found no memory before it began.
+use Rattle.std.proofs.Common.{◌≡◌, ℕ, ◌<◌, ◌^◌, ◌==◌, Option, Result, Some, None, IfSome, Ok, Err, true, false, refl, sym, subst, eqb-true, arith}
 use Rattle.std.specs.Prelude.{IsSome, IsSomeAnd}
 use Rattle.std.specs.Option.{option_map_or}
 use Rattle.opus_io.specs.Outside.{Outside}
-use Rattle.opus_words.specs.Fit.{IsFit, IsFormFor, IsNumberFor}
+use Rattle.opus_words.specs.Fit.{IsFit, IsBetween, IsFormFor, IsNumberFor}
 use Rattle.opus_words.specs.Jobs.{is_built_of, forms_of}
 use Rattle.opus_words.specs.Options.{lack_of, row_of}
 use Rattle.opus_words.specs.declared.ending.Ending.TheVariants.{NoMemory}
@@ -11,18 +11,21 @@ use Rattle.opus_words.specs.declared.fault.UsageKind.{UsageKind}
 use Rattle.opus_words.specs.declared.form.Form.{Form}
 use Rattle.opus_words.specs.declared.job.Job.{Job}
 use Rattle.opus_words.specs.declared.kind.JobKind.{JobKind}
-use Rattle.opus_words.specs.declared.kind.JobKind.TheVariants.{Norm, Check, Split}
+use Rattle.opus_words.specs.declared.kind.JobKind.TheVariants.{Norm, Check, Split, Send}
 use Rattle.opus_words.specs.declared.option.Opt.TheVariants as opt
-use Rattle.pack_jobs.specs.PackEnds.{IsPackKind, IsPackJob, form_in, padding_in, settles_in, ends_in}
+use Rattle.pack_jobs.specs.PackEnds.{IsPackKind, IsPackJob, PackEnds, form_in, padding_in, settles_in, ends_in}
 use Rattle.pack_jobs.proofs.PackLemmas.{unstarted_kind, none_settled}
+use Rattle.net_jobs.specs.NetEnds.{IsNetKind, IsNetJob}
+use Rattle.net_jobs.proofs.NetLemmas.{unstarted_net}
 use Rattle.opuspack.specs.declared.finish.Finish.TheVariants.{Ended}
-use Rattle.opuspack.specs.Run.{Meant}
+use Rattle.opuspack.specs.Run.{KindMeans, Meant}
 
-is_pack : (kind : JobKind) (job : Job) → is_built_of kind job ≡ true → IsPackKind kind
-is_pack Norm job built = tt
-is_pack Check job built = tt
-is_pack Split job built = tt
-is_pack kind job built = absurd (cc)
+is_pack : (kind : JobKind) (job : Job) → is_built_of kind job ≡ true → (kind ≡ Send → ⊥) → IsPackKind kind
+is_pack Norm job built other = tt
+is_pack Check job built other = tt
+is_pack Split job built other = tt
+is_pack Send job built other = absurd (other refl)
+is_pack kind job built other = absurd cc
 
 some_and : {T : Type 0} → (o : Option T) (P : T → Type 0) → IsSomeAnd o P → IsSome o
 some_and None P is = absurd is
@@ -45,23 +48,51 @@ pack_streams Check job built is number = one_stream job.streams built
 pack_streams Split job built is number = subst (λ o. IfSome o (λ n. n ≡ 1)) (sym number) tt
 pack_streams kind job built is number = absurd is
 
-pub is_pack_job : (job : Job) → IsFit job → IsPackJob job
-is_pack_job job fit =
-    let kind = is_pack job.kind job fit.built in
+pub is_pack_job : (job : Job) → (job.kind ≡ Send → ⊥) → IsFit job → IsPackJob job
+is_pack_job job other fit =
+    let kind = is_pack job.kind job fit.built other in
     record {
       kind = kind;
       form = pack_form job.kind kind job.form fit.form;
       streams = pack_streams job.kind job fit.built kind (fit.numbers opt.Streams);
     }
 
+within_seven_bits : (pt : Option ℕ) → IsSomeAnd pt (IsBetween 0 127) → IfSome pt (λ n. n < 2 ^ 7)
+within_seven_bits None between = tt
+within_seven_bits (Some n) between = omega arith
+
+pub is_net_job : (job : Job) → job.kind ≡ Send → IsFit job → IsNetJob job
+is_net_job job sends fit = record {
+  kind = subst IsNetKind (sym sends) tt;
+  pt = within_seven_bits job.pt
+      (subst (λ kind. IsNumberFor (row_of opt.Pt).values (lack_of opt.Pt kind) job.pt) sends (fit.numbers opt.Pt));
+}
+
+-- a job of a kind that found no memory
+unstarted_pack : (job : Job) → IsPackKind job.kind → (limit : ℕ) (s : Outside) (Untouched : Type 0) → Untouched
+    → PackEnds job limit s s Untouched NoMemory
+unstarted_pack job is limit s Untouched same =
+    let form = form_in job in
+    let padding = padding_in job in
+    unstarted_kind job.kind is job (settles_in form padding) (ends_in form padding) limit s.left s.reads s.contents
+    s.writes s.refusals Untouched same (none_settled form padding)
+
+unstarted : (kind : JobKind) (job : Job) → job.kind ≡ kind → is_built_of kind job ≡ true → (limit : ℕ) (s : Outside)
+    (Untouched : Type 0) → Untouched → KindMeans kind job limit s s Untouched NoMemory
+unstarted Norm job is built limit s Untouched same =
+    unstarted_pack job (subst IsPackKind (sym is) tt) limit s Untouched same
+unstarted Check job is built limit s Untouched same =
+    unstarted_pack job (subst IsPackKind (sym is) tt) limit s Untouched same
+unstarted Split job is built limit s Untouched same =
+    unstarted_pack job (subst IsPackKind (sym is) tt) limit s Untouched same
+unstarted Send job is built limit s Untouched same =
+    unstarted_net job.kind (subst IsNetKind (sym is) tt) job limit s.left s.reads s.contents s.writes s.refusals
+    Untouched same
+unstarted kind job is built limit s Untouched same = absurd cc
+
 pub meant_no_memory : {S O : Type 0} (said : Result Job UsageKind) (limit : ℕ) (seen : S → O → Outside) (source : S)
     (out : O) → ((job : Job) → said ≡ Ok job → IsFit job)
     → Meant said limit (Ended NoMemory) seen source source out out
 meant_no_memory (Ok job) limit seen source out fits =
-    let s = seen source out in
-    let form = form_in job in
-    let padding = padding_in job in
-    unstarted_kind job.kind (is_pack job.kind job (fits job refl).built) job (settles_in form padding)
-    (ends_in form padding) limit s.left s.reads s.contents s.writes s.refusals (source ≡ source) refl
-    (none_settled form padding)
+    unstarted job.kind job refl (fits job refl).built limit (seen source out) (source ≡ source) refl
 meant_no_memory (Err kind) limit seen source out fits = (refl, refl, refl)

@@ -1,14 +1,17 @@
 //! The whole program, over any source and any sinks.
 ghost use Rattle.std.specs.Prelude.{◌≡◌, ℕ, ◌^◌, ◌≤◌, map, string_bytes};
+ghost use Rattle.opus_words.specs.Fit.{IsFit};
 ghost use Rattle.opus_words.specs.Words.{job_of_words};
+ghost use Rattle.pack_jobs.specs.PackEnds.{seen_as};
 ghost use Rattle.opuspack.specs.declared.finish.Finish.{Finish};
 ghost use Rattle.opuspack.specs.Finish.{status_of, note_of, Noted};
-ghost use Rattle.opuspack.specs.Run.{Meant};
+ghost use Rattle.opuspack.specs.Run.{JobMeans, Meant};
 
 use crate::finish::Finish;
 use crate::status::Status;
+use net_jobs::net_job;
 use opus_io::{Sink, Source};
-use opus_words::{Ending, WordsFault, job_of};
+use opus_words::{Ending, Job, JobKind, WordsFault, job_of};
 use pack_jobs::pack_job;
 use std::alloc::Global;
 
@@ -71,8 +74,30 @@ fn do_job<S: Source, O: Sink>(
         source.old source.new out.old out.new }
 {
     match job_of(alloc, words) {
-        Ok(job) => Finish::Ended(pack_job(alloc, &job, limit, source, out)),
+        Ok(job) => Finish::Ended(end_of(alloc, &job, limit, source, out)),
         Err(WordsFault::Usage(kind)) => Finish::Usage(kind),
         Err(WordsFault::NoMemory) => Finish::Ended(Ending::NoMemory),
+    }
+}
+
+// Does the job, and tells how it ended.
+fn end_of<S: Source, O: Sink>(
+    alloc: Global,
+    job: &Job,
+    limit: u64,
+    source: &mut S,
+    out: &mut O,
+) -> Ending
+    requires some { 1 ≤ limit }
+    requires most { limit ≤ 2 ^ 40 }
+    requires fit { IsFit job.now }
+    ensures { JobMeans job.now limit
+        (seen_as (S.left source.old) (S.faults source.old) (O.contents out.old) (O.faults out.old) (O.refusals out.old))
+        (seen_as (S.left source.new) (S.faults source.new) (O.contents out.new) (O.faults out.new) (O.refusals out.new))
+        (source.new ≡ source.old) result }
+{
+    match job.kind {
+        JobKind::Send => net_job(alloc, job, limit, source, out),
+        _ => pack_job(alloc, job, limit, source, out),
     }
 }

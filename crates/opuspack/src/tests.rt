@@ -7,9 +7,11 @@ use opus_io::{MemorySink, MemorySource};
 use std::alloc::Global;
 use std::test::Fail;
 
+mod capture;
 mod check;
 mod norm;
 mod outside;
+mod send;
 mod split;
 mod words;
 

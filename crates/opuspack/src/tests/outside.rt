@@ -13,6 +13,8 @@ const DEMO: &[&str] = &["norm", "--form", "demo"];
 
 const CHECK: &[&str] = &["check", "--form", "demo"];
 
+const SEND: &[&str] = &["send"];
+
 // A store of three records with one packet.
 const THREE: &[u8] =
     b"\x00\x00\x00\x02\x00\x00\x00\x00\xf8\xaa\x00\x00\x00\x02\x00\x00\x00\x00\xf8\xaa\x00\x00\x00\x02\x00\x00\x00\x00\xf8\xaa";
@@ -20,6 +22,10 @@ const THREE: &[u8] =
 // A store whose second record is bad behind two of its ten payload bytes.
 const BAD: &[u8] =
     b"\x00\x00\x00\x02\x00\x00\x00\x00\xf8\xaa\x00\x00\x00\x0a\x00\x00\x00\x00\xfb\x07\x00\x00\x00\x00";
+
+// The capture of the packets of THREE.
+const THREE_SENT: &[u8] =
+    b"#!rtpplay1.0 0.0.0.0/0\n\0\0\0\0\0\0\0\0\0\0\0\0\0\0\0\0\x00\x16\x00\x0e\0\0\0\0\x80\x60\x00\x00\0\0\0\0\0\0\0\0\xf8\xaa\x00\x16\x00\x0e\0\0\0\x14\x80\x60\x00\x01\0\0\x03\xc0\0\0\0\0\xf8\xaa\x00\x16\x00\x0e\0\0\0\x28\x80\x60\x00\x02\0\0\x07\x80\0\0\0\0\xf8\xaa";
 
 /// Words, an input, its whole output, and how many bytes of it stand when 0, 1, 2, .. bytes of the input came.
 type Settled = (
@@ -63,6 +69,15 @@ static SETTLED: [Settled; 5] = [
         b"0 ok\n1 R5 at 1\n",
         &[
             0, 0, 0, 0, 0, 0, 0, 0, 0, 0, 5, 5, 5, 5, 5, 5, 5, 5, 5, 5, 15, 15, 15, 15, 15,
+        ],
+    ),
+    (
+        SEND,
+        THREE,
+        THREE_SENT,
+        &[
+            39, 39, 39, 39, 39, 39, 39, 39, 39, 39, 61, 61, 61, 61, 61, 61, 61, 61, 61, 61, 83, 83,
+            83, 83, 83, 83, 83, 83, 83, 83, 105,
         ],
     ),
 ];

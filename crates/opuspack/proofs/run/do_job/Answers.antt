@@ -2,11 +2,8 @@ use Rattle.std.proofs.Common.{map}
 use Rattle.std.specs.Prelude.{string_bytes}
 use Rattle.opus_words.specs.Words.{job_of_words}
 use Rattle.opus_words.proofs.FitLemmas.{job_of_words-fits}
-use Rattle.opuspack.proofs.RunLemmas.{is_pack_job, meant_no_memory}
+use Rattle.opuspack.proofs.RunLemmas.{meant_no_memory}
 use Rattle.opuspack.proofs.run.do_job.Goals as goal
-
-pub pack_job-requires-clause-job : goal.pack_job-requires-clause-job
-pack_job-requires-clause-job g c = is_pack_job c.in-Ok.job c.in-Ok.ensures.fit
 
 pub returns-in-Err-NoMemory : goal.returns-in-Err-NoMemory
 returns-in-Err-NoMemory g c =
