@@ -4,8 +4,11 @@ use Rattle.std.proofs.lemmas.Fmt.{decimal_digit}
 use Rattle.job_loop.specs.Shown.{Shown}
 use Rattle.job_loop.specs.Meaning.{going, broke, outcome}
 use Rattle.job_loop.specs.declared.input_end.InputEnd.TheVariants.{Closed, Cut, Past}
+use Rattle.opus_toc.specs.Configuration.{samples_of, row_of}
 use Rattle.opus_packet.specs.declared.fault.Rule.TheVariants.{R5}
-use Rattle.opus_packet.specs.HeaderRead.{shape_of}
+use Rattle.opus_packet.specs.Canonical.{canonical}
+use Rattle.opus_packet.specs.Header.{header_bytes}
+use Rattle.opus_packet.specs.HeaderRead.{shape_of, header_read}
 use Rattle.opus_packet.specs.PacketFault.{fault}
 use Rattle.opus_feed.specs.declared.framing.Framing.TheVariants.{Whole}
 use Rattle.opus_feed.specs.declared.padding.Padding.TheVariants.{Drop, Keep}
@@ -13,9 +16,11 @@ use Rattle.opus_words.specs.declared.form.Form.TheVariants.{Raw, Demo, SelfDelim
 use Rattle.pack_records.specs.declared.item.Found.TheVariants.{Packet}
 use Rattle.pack_records.specs.declared.item.Item.{Item}
 use Rattle.pack_records.specs.Holds.{record_of, bad_record, lost_record}
+use Rattle.pack_records.specs.Lent.{lent_value}
 use Rattle.pack_jobs.specs.declared.refusal.Why.TheVariants.{Fault, PaddingLong, StoreCut}
 use Rattle.pack_jobs.specs.Refusal.{refusal_of, refusal_text, fault_text}
 use Rattle.pack_jobs.specs.Norm.{norm}
+use Rattle.pack_jobs.specs.Split.{split}
 use Rattle.pack_jobs.specs.Check.{check, check_line}
 use Rattle.pack_jobs.specs.Written.{lines_from}
 
@@ -54,6 +59,20 @@ long_padding_is_dropped = refl
 
 the_most_padding_is_kept : outcome (norm Raw Keep) (padded 65794 ∷ []) Closed ≡ going (0xF8 ∷ 0xAA ∷ []) tt
 the_most_padding_is_kept = refl
+
+-- split: three frames in pieces of two, of which the last has the range, and a lost record as it is
+abbrev three : Shown Item
+three = record_of 8 13 7 (Packet Whole (shape_of 3 false 0) 5) (0xFB ∷ 3 ∷ 0xAA ∷ 0xBB ∷ 0xCC ∷ [])
+
+split_keeps_the_range_at_the_last_piece : outcome (split Demo 2) (three ∷ gone ∷ []) Closed
+    ≡ going (0 ∷ 0 ∷ 0 ∷ 3 ∷ 0 ∷ 0 ∷ 0 ∷ 0 ∷ 0xF9 ∷ 0xAA ∷ 0xBB ∷ 0 ∷ 0 ∷ 0 ∷ 2 ∷ 0 ∷ 0 ∷ 0 ∷ 7 ∷ 0xF8 ∷ 0xCC
+    ∷ 0 ∷ 0 ∷ 0 ∷ 0 ∷ 0 ∷ 0 ∷ 0 ∷ 9 ∷ []) tt
+unfolding lent_value canonical header_read header_bytes samples_of row_of
+split_keeps_the_range_at_the_last_piece = refl
+
+split_stops_at_a_bad_one : outcome (split Demo 2) (gone ∷ long ∷ three ∷ []) Closed
+    ≡ broke (0 ∷ 0 ∷ 0 ∷ 0 ∷ 0 ∷ 0 ∷ 0 ∷ 9 ∷ []) (refusal_of 1 27 (Fault (fault R5 1)))
+split_stops_at_a_bad_one = refl
 
 -- lines, with the digits of their numbers
 abbrev lines : List ℕ → List ℕ → List ℕ → List ℕ

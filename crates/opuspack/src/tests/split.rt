@@ -83,30 +83,44 @@ fn split_writes_pieces_or_names_the_fault(rt: HostRuntime) -> Result<(), Fail> {
     Ok(())
 }
 
-// So many pieces that begin so, of so many frames each.
-type Pieces = (usize, &'static [u8], u8);
+// So many records that begin so, with so many frames of a byte behind it each.
+type Records = (usize, &'static [u8], u8);
 
-// A number for `--frames`, and the pieces of 48 frames.
-static LONGEST: [(&str, &[Pieces]); 4] = [
-    ("1", &[(48, b"\xe0", 1)]),
-    ("5", &[(9, b"\xe3\x05", 5), (1, b"\xe3\x03", 3)]),
-    ("47", &[(1, b"\xe3\x2f", 47), (1, b"\xe0", 1)]),
-    ("48", &[(1, b"\xe3\x30", 48)]),
+// 48 frames of 2.5 ms, which last 120 ms.
+const LONGEST: Records = (1, b"\0\0\0\x32\0\0\0\x07\xe3\x30", 48);
+
+// A number for `--frames`, and what becomes of these frames.
+static PIECES: [(&str, &[Records]); 4] = [
+    (
+        "1",
+        &[
+            (47, b"\0\0\0\x02\0\0\0\0\xe0", 1),
+            (1, b"\0\0\0\x02\0\0\0\x07\xe0", 1),
+        ],
+    ),
+    (
+        "5",
+        &[
+            (9, b"\0\0\0\x07\0\0\0\0\xe3\x05", 5),
+            (1, b"\0\0\0\x05\0\0\0\x07\xe3\x03", 3),
+        ],
+    ),
+    (
+        "47",
+        &[
+            (1, b"\0\0\0\x31\0\0\0\0\xe3\x2f", 47),
+            (1, b"\0\0\0\x02\0\0\0\x07\xe0", 1),
+        ],
+    ),
+    ("48", &[LONGEST]),
 ];
 
-// A store of such pieces, whose frames are the bytes 0, 1, 2, .. The piece with frame 47 has range 7.
-fn store_of(alloc: Global, pieces: &[Pieces]) -> Result<Vec<u8>, Fail> {
+// A store of such records, whose frames are the bytes 0, 1, 2, ..
+fn store_of(alloc: Global, records: &[Records]) -> Result<Vec<u8>, Fail> {
     let mut store = Vec::new(alloc);
     let mut frame: u8 = 0;
-    for (times, front, count) in pieces {
+    for (times, front, count) in records {
         for _ in 0..*times {
-            let range = if frame.saturating_add(*count) == 48 {
-                7
-            } else {
-                0
-            };
-            let size = (front.len() as u8).saturating_add(*count);
-            store.extend_from_slice(&[0, 0, 0, size, 0, 0, 0, range])?;
             store.extend_from_slice(front)?;
             for _ in 0..*count {
                 store.push(frame)?;
@@ -120,9 +134,9 @@ fn store_of(alloc: Global, pieces: &[Pieces]) -> Result<Vec<u8>, Fail> {
 #[test]
 fn splits_48_frames_in_pieces_of_any_size(rt: HostRuntime) -> Result<(), Fail> {
     let alloc = rt.alloc();
-    let input = store_of(alloc, &[(1, b"\xe3\x30", 48)])?;
-    for (most, pieces) in LONGEST {
-        let output = store_of(alloc, pieces)?;
+    let input = store_of(alloc, &[LONGEST])?;
+    for (most, records) in PIECES {
+        let output = store_of(alloc, records)?;
         let words = &["split", "--frames", most];
         assert!(rt; is_met(alloc, words, &input, Status::Ok, &output, "")?);
     }
