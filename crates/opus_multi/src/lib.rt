@@ -9,6 +9,8 @@ pub mod laws;
 mod list;
 mod multi;
 mod multi_feed;
+#[cfg(test)]
+mod multi_feed_tests;
 mod multi_place;
 mod part;
 #[cfg(test)]

@@ -4,12 +4,12 @@ use opus_packet::{Fault, Held, Rule, Tail, decode};
 use std::alloc::Global;
 use std::test::Fail;
 
-fn broken(stream: u8, rule: Rule, place: u64) -> MultiFault {
+pub(crate) fn broken(stream: u8, rule: Rule, place: u64) -> MultiFault {
     MultiFault::Stream(stream, Fault { rule, place })
 }
 
 // Bytes of so many streams.
-static GOOD: [(&[u8], u8); 5] = [
+pub(crate) static GOOD: [(&[u8], u8); 5] = [
     (&[0xF8, 1, 0xAA, 0xF8, 0xBB], 2),
     (&[0xF8, 0xBB], 1),
     (&[0xFB, 0x41, 1, 1, 0xAA, 0, 0xFB, 1, 0xBB], 2),
@@ -18,7 +18,7 @@ static GOOD: [(&[u8], u8); 5] = [
 ];
 
 // Bytes, the number of streams, and the first that doesn't read, with its fault.
-static BROKEN: [(&[u8], u8, u8, Rule, u64); 11] = [
+pub(crate) static BROKEN: [(&[u8], u8, u8, Rule, u64); 11] = [
     (&[], 2, 0, Rule::Cut, 0),
     (&[0xF8], 2, 0, Rule::Cut, 1),
     (&[0xF8, 1], 2, 0, Rule::Cut, 2),
@@ -33,7 +33,7 @@ static BROKEN: [(&[u8], u8, u8, Rule, u64); 11] = [
 ];
 
 // Bytes, the number of streams, and the first that lasts other than stream 0.
-static UNEQUAL: [(&[u8], u8, u8); 4] = [
+pub(crate) static UNEQUAL: [(&[u8], u8, u8); 4] = [
     (&[0xF8, 1, 0xAA, 0xF0, 0xBB], 2, 1),
     (&[0xF8, 0, 0xF0, 0, 0xF8, 0xBB], 3, 1),
     (&[0xF8, 0, 0xF8, 0, 0xF0, 0xBB], 3, 2),
