@@ -10,3 +10,4 @@ pub mod ReadsLemmas
 pub mod StandsLemmas
 pub mod EndLemmas
 pub mod TakenLemmas
+pub mod PartsLemmas

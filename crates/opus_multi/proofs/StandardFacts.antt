@@ -4,12 +4,18 @@ use Rattle.opus_toc.specs.Configuration.{samples_of, row_of}
 use Rattle.opus_flen.specs.PaddingLength.{most_full}
 use Rattle.opus_packet.specs.Value.{PacketValue}
 use Rattle.opus_packet.specs.Header.{header_bytes}
-use Rattle.opus_packet.specs.HeaderRead.{shape_of}
+use Rattle.opus_packet.specs.HeaderRead.{shape_of, header_read}
+use Rattle.opus_packet.specs.PacketFault.{fault}
+use Rattle.opus_packet.specs.declared.fault.Rule.TheVariants.{R5}
+use Rattle.opus_packet.proofs.PrefixLemmas.{prefix_of_packet}
+use Rattle.opus_feed.specs.declared.padding.Padding.TheVariants.{Drop, Keep}
 use Rattle.opus_packet.specs.Canonical.{canonical, canonical_self_delimited, kept_form, kept_self_delimited}
 use Rattle.opus_packet.specs.PacketGrammar.{IsPacket}
 use Rattle.opus_packet.specs.SelfGrammar.{IsSelfDelimited}
-use Rattle.opus_multi.specs.declared.fault.MultiFault.TheVariants.{Unequal}
+use Rattle.opus_multi.specs.declared.fault.MultiFault.TheVariants.{Stream, Unequal}
 use Rattle.opus_multi.specs.Streams.{SpelledStream}
+use Rattle.opus_multi.specs.MultistreamPrefix.{IsMultistreamPrefix}
+use Rattle.opus_multi.specs.StreamParts.{part_of}
 use Rattle.opus_multi.specs.Multistream.{IsMultistream}
 use Rattle.opus_multi.specs.MultistreamFault.{IsMultistreamFault}
 use Rattle.opus_multi.specs.Forms.{canonical_multistream, kept_multistream}
@@ -126,4 +132,48 @@ first_short-unequal = record {
     ends = record { size_is = refl; spelled = short_plain-packet };
   };
   unequal = record { first = 960; other = 480; rest = []; some = omega arith; differs = (λ same. omega (arith, same)); are = refl };
+}
+
+-- the padding byte of the first stream is counted or kept in its part
+
+first_dropped : part_of Drop first_padded ≡ record {
+  held = record { value = first; tail = [] };
+  shape = shape_of 3 false 2;
+  size = 6;
+  dropped = 1;
+}
+unfolding first_padded
+first_dropped = refl
+
+first_kept : part_of Keep first_padded ≡ record {
+  held = record { value = first; tail = 0x00 ∷ [] };
+  shape = shape_of 3 false 2;
+  size = 6;
+  dropped = 0;
+}
+unfolding first_padded
+first_kept = refl
+
+-- a TOC byte behind the first stream can become the packet of the second
+begun-prefix : IsMultistreamPrefix 2 (0xF8 ∷ 0x01 ∷ 0xAA ∷ 0xF8 ∷ [])
+unfolding first_plain first header_read header_bytes samples_of row_of most_full
+begun-prefix = record {
+  first = first_plain ∷ [];
+  rest = 0xF8 ∷ [];
+  within = omega arith;
+  stand = (record { within = omega arith; spelled = first_plain-packet }, refl);
+  can = omega arith;
+}
+
+-- a frame count of 0 can't, and the place counts from the second stream's first byte
+no_frames-broken : IsMultistreamFault 2 (0xF8 ∷ 0x01 ∷ 0xAA ∷ 0xFB ∷ 0x00 ∷ []) (Stream 1 (fault R5 1))
+unfolding first_plain first header_read header_bytes samples_of row_of most_full
+no_frames-broken = record {
+  first = first_plain ∷ [];
+  rest = 0xFB ∷ 0x00 ∷ [];
+  counted = refl;
+  within = omega arith;
+  stand = (record { within = omega arith; spelled = first_plain-packet }, refl);
+  none = λ v s spelled. prefix_of_packet (0xFB ∷ 0x00 ∷ []) [] (omega arith, (omega arith, tt)) (v, s, spelled);
+  fault_is = refl;
 }

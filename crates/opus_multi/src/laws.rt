@@ -3,14 +3,20 @@ ghost use Rattle.std.specs.Prelude.{◌≡◌, ℕ, ◌≤◌, List, map, length
 ghost use Rattle.std.specs.List.{AllByRecursion};
 ghost use Rattle.opus_packet.specs.Value.{PacketValue, IsPacketValue, duration_of};
 ghost use Rattle.opus_packet.specs.PacketPrefix.{AreBytes};
+ghost use Rattle.opus_packet.specs.Read.{PacketRead};
 ghost use Rattle.opus_packet.specs.Held.{HeldRead};
+ghost use Rattle.opus_feed.specs.declared.padding.Padding.{Padding};
+ghost use Rattle.opus_feed.specs.declared.padding.Padding.TheVariants.{Keep};
 ghost use Rattle.opus_multi.specs.declared.fault.MultiFault.{MultiFault};
+ghost use Rattle.opus_multi.specs.declared.part.Part.{Part};
 ghost use Rattle.opus_multi.specs.Durations.{HaveOneDuration};
 ghost use Rattle.opus_multi.specs.Multistream.{IsMultistream};
 ghost use Rattle.opus_multi.specs.MultistreamFault.{IsMultistreamFault};
 ghost use Rattle.opus_multi.specs.MultistreamPrefix.{IsMultistreamPrefix, BecomesStreams};
 ghost use Rattle.opus_multi.specs.Forms.{canonical_multistream, kept_multistream, IsKeptValue, bare};
 ghost use Rattle.opus_multi.specs.Joins.{held_durations};
+ghost use Rattle.opus_multi.specs.Readings.{AreRead};
+ghost use Rattle.opus_multi.specs.StreamParts.{part_as, AreAllParts};
 
 /// The same bytes are never packets of two lists of so many values, and their padding bytes are theirs alone.
 pub fn a_list_has_one_list_of_values()
@@ -54,4 +60,21 @@ pub fn a_prefix_is_what_can_become_streams()
         → AreBytes bytes → IsMultistreamPrefix count bytes → BecomesStreams count bytes }
     ensures only { (count : ℕ) (bytes : List ℕ)
         → AreBytes bytes → BecomesStreams count bytes → IsMultistreamPrefix count bytes }
+{}
+
+/// The parts that a feed gives of a multistream packet have its values, and so they write its canonical form; where no
+/// padding bytes were dropped they have these too, and write its kept form.
+pub fn the_parts_of_a_packet_are_its_values_and_padding()
+    ensures values { (count : ℕ) (padding : Padding) (vs : List PacketValue) (qs : List (List ℕ)) (bytes : List ℕ)
+        (parts : List Part) → AreAllParts count padding bytes parts → length vs ≡ count → IsMultistream vs qs bytes
+        → map (λ p. p.held.value) parts ≡ vs }
+    ensures padding { (count : ℕ) (padding : Padding) (vs : List PacketValue) (qs : List (List ℕ)) (bytes : List ℕ)
+        (parts : List Part) → AreAllParts count padding bytes parts → AllByRecursion (λ p. p.dropped ≡ 0) parts
+        → length vs ≡ count → IsMultistream vs qs bytes → map (λ p. p.held.tail) parts ≡ qs }
+{}
+
+/// A packet that came in pieces gives, with `Keep`, the parts that are copies of what `decode_multi` reads.
+pub fn pieces_give_the_parts_that_decode_multi_reads()
+    ensures { (count : ℕ) (bytes : List ℕ) (packets : List PacketRead) (parts : List Part)
+        → AreRead count bytes packets → AreAllParts count Keep bytes parts → parts ≡ map part_as packets }
 {}
