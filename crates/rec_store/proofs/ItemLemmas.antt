@@ -1,8 +1,9 @@
 -- Numbers in the bytes of a capture's head and of a record.
-use Rattle.std.proofs.Common.{◌≡◌, ℕ, ◌+◌, ◌-◌, ◌^◌, ◌≤◌, ◌<◌, List, [], ◌∷◌, ◌++◌, length, take, drop, length-drop, drop-drop, take-append-drop, refl, sym, ap, ◌∙◌, append_assoc, arith}
-use Rattle.std.proofs.lemmas.List.{take-take}
+use Rattle.std.proofs.Common.{◌≡◌, ◌==◌, if◌then◌else◌, Bool, true, false, min, ℕ, ◌+◌, ◌-◌, ◌^◌, ◌≤◌, ◌<◌, List, [], ◌∷◌, ◌++◌, length, take, drop, length-drop, drop-drop, take-append-drop, refl, sym, ap, ◌∙◌, append_assoc, arith}
+use Rattle.std.proofs.Math.Seq.{take-length}
+use Rattle.std.proofs.lemmas.List.{take-take, take_min}
 use Rattle.std.specs.Int.{w16, w32, to_be_bytes}
-use Rattle.rec_store.specs.Dump.{DumpRecord}
+use Rattle.rec_store.specs.Dump.{DumpRecord, packet_of_record}
 use Rattle.rec_store.specs.DumpItem.{kind_of, item_of, packet_size, IsOwnLength, TellsRecord}
 use Rattle.rec_store.specs.DumpStore.{IsDumpHead}
 use Rattle.rec_store.specs.declared.dump_item.DumpItem.{DumpItem}
@@ -65,3 +66,12 @@ tells_record bytes len packet_length offset item size own p q r is at kind size_
       item_is = item_is item told at (kind ∙ ap (kind_of packet_length) count);
       size_is = size_is ∙ ap (packet_size packet_length) count;
     }
+
+-- as many of the bytes kept as are the packet's
+pub packet-taken : (r : DumpRecord) → take (packet_size r.packet_length (length r.kept)) r.kept ≡ packet_of_record r
+packet-taken r = go (r.packet_length == 0)
+  where
+    go : (b : Bool) → take (if b then length r.kept else min r.packet_length (length r.kept)) r.kept
+        ≡ (if b then r.kept else take r.packet_length r.kept)
+    go true = take-length r.kept
+    go false = take_min r.packet_length r.kept

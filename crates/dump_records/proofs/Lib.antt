@@ -1,0 +1,4 @@
+pub mod EndLemmas
+pub mod FedLemmas
+pub mod LawLemmas
+pub mod StandLemmas
