@@ -1,4 +1,5 @@
 pub mod Capture
+pub mod Plain
 pub mod Send
 pub mod SendStands
 pub mod NetEnds

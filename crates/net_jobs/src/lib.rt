@@ -2,6 +2,7 @@
 #![tactic(auto)]
 
 mod net;
+mod plain;
 mod send;
 
 pub use net::net_job;

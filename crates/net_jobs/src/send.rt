@@ -1,29 +1,31 @@
 //! The job send: what a sender sends, as a capture in the rtpdump layout.
-ghost use Rattle.std.specs.Prelude.{◌≡◌, ◌≤◌, ◌<◌, ◌^◌, ◌∷◌, ◌++◌, [], List, length, vec_capacity, Option, Some, None, IfOk, OnOk, OnErr};
-ghost use Rattle.std.specs.Option.{option_map};
-ghost use Rattle.std.specs.Io.KnownBytes.{Appends};
-ghost use Rattle.opus_io.specs.Sink.{SinkCause, Onward};
-ghost use Rattle.opus_packet.specs.Value.{PacketValue};
-ghost use Rattle.job_loop.specs.Telling.{Front};
-ghost use Rattle.rec_store.specs.Dump.{dump_head_bytes};
+ghost use Rattle.std.specs.Prelude.{◌≡◌, ◌≤◌, ◌<◌, ◌^◌, [], List, length, vec_len, vec_capacity, Option, Some, None, IfOk};
+ghost use Rattle.opus_packet.specs.Value.{PacketValue, duration_of};
+ghost use Rattle.opus_packet.specs.Canonical.{canonical};
+ghost use Rattle.rec_store.specs.Dump.{dump_head_bytes, dump_record_head};
 ghost use Rattle.rtp_ends.specs.Sends.{SenderStands};
-ghost use Rattle.net_jobs.specs.Capture.{offset_behind, packet_text};
+ghost use Rattle.pack_records.specs.Fits.{FoundFits};
+ghost use Rattle.pack_records.specs.Lent.{lent_value};
+ghost use Rattle.net_jobs.specs.Capture.{offset_behind};
 ghost use Rattle.net_jobs.specs.Send.{send, given_of};
 
+use crate::plain::plain_samples;
 use job_loop::{InputEnd, JobStop, Lent, RecordJob};
-use opus_io::{NoMemory, Sink, SinkStop, write_all};
+use opus_feed::Framing;
+use opus_io::{NoMemory, Sink, write_all};
 use opus_packet::Packet;
+use opus_writer::canon_size;
 use pack_jobs::{Refusal, Why, refusal_at};
 use pack_records::{Cut, Found, Item, lent_packet};
-use rec_store::{dump_head, dump_record};
+use rec_store::{dump_head, dump_record_head};
 use rtp_ends::Sender;
 use std::alloc::Global;
 
 // Most records that a sender takes.
 const MOST_RECORDS: u64 = 1_099_511_627_776;
 
-// Most bytes of an RTP packet that is sent: its 12, and a canonical form.
-const MOST_PACKET: usize = 61_307;
+// Most bytes of a record: the 8 of its head, the 12 of an RTP packet, and a canonical form.
+const MOST_TEXT: usize = 61_315;
 
 /// Sends each packet of a store, and passes over the lost ones. What is sent is written as a capture.
 #[derive(Drop)]
@@ -31,16 +33,14 @@ pub struct SendJob {
     sender: Sender,
     // What stands before the records of the capture.
     opening: Vec<u8>,
-    // The RTP packet that is sent, and its record.
-    packet: Vec<u8>,
+    // The record of the packet that is sent.
     text: Vec<u8>,
     ghost opens: { opening.items ≡ dump_head_bytes },
-    ghost packet_room: { 61307 ≤ vec_capacity packet },
-    ghost text_room: { 61315 ≤ vec_capacity text },
+    ghost room: { 61315 ≤ vec_capacity text },
 }
 
 impl SendJob {
-    ghost use Rattle.net_jobs.specs.SendStands.{send_job, SendStands};
+    ghost use Rattle.net_jobs.specs.SendStands.{send_job, SendStands, IsGiven};
 
     /// The job of a sender that was given nothing yet. All memory is taken here.
     pub fn new(alloc: Global, sender: Sender) -> Result<SendJob, NoMemory>
@@ -52,8 +52,7 @@ impl SendJob {
         Ok(SendJob {
             sender,
             opening,
-            packet: Vec::with_capacity(alloc, MOST_PACKET)?,
-            text: Vec::with_capacity(alloc, 8 + MOST_PACKET)?,
+            text: Vec::with_capacity(alloc, MOST_TEXT)?,
         })
     }
 
@@ -65,40 +64,89 @@ impl SendJob {
         (self.sender.elapsed() / 48 % 4_294_967_296) as u32
     }
 
-    // Sends a packet, and makes its record of the capture.
-    fn fill(&mut self, packet: &Packet<'_>)
-        requires { self.old.sender.sent < 2 ^ 40 }
-        ensures first { self.new.sender.first ≡ self.old.sender.first }
-        ensures stands { (records : List (Option PacketValue)) → SenderStands self.old.sender records
-            → SenderStands self.new.sender (records ++ Some packet.now.value ∷ []) }
-        ensures text { (records : List (Option PacketValue)) → SenderStands self.old.sender records
-            → self.new.text.items ≡ packet_text self.old.sender.first records packet.now.value }
+    // Begins the record of an RTP packet of so many bytes.
+    fn begin(&mut self, size: u16)
+        requires { size ≤ 61307 }
+        ensures sender { self.new.sender ≡ self.old.sender }
+        ensures head { (records : List (Option PacketValue)) → SenderStands self.old.sender records
+            → self.new.text.items ≡ dump_record_head size size (offset_behind records) }
+        ensures length { vec_len self.new.text ≡ 8 }
     {
-        let offset = self.offset();
-        self.packet.clear();
+        let head = dump_record_head(size, self.offset());
         self.text.clear();
-        self.sender.send(packet, &mut self.packet).unwrap();
-        dump_record(offset, &self.packet, &mut self.text).unwrap();
+        self.text.extend_from_slice(&head).unwrap();
     }
 
-    // Sends a packet, and writes its record of the capture.
-    fn send<O: Sink>(&mut self, packet: &Packet<'_>, out: &mut O) -> Result<(), SinkStop>
+    // Sends a packet that is lent in its canonical form.
+    #[inline(always)]
+    fn send_form(&mut self, form: &[u8], samples: u32)
+        requires sent { self.old.sender.sent < 2 ^ 40 }
+        requires samples { samples ≤ 5760 }
+        requires most { length form.now ≤ 61295 }
+        ensures first { self.new.sender.first ≡ self.old.sender.first }
+        ensures sent { (records : List (Option PacketValue)) (v : PacketValue)
+            → SenderStands self.old.sender records → form.now ≡ canonical v → samples ≡ duration_of v
+            → IsGiven self.old.sender.first records (Some v) self.new }
+    {
+        self.begin(12 + form.len() as u16);
+        self.sender
+            .send_form(form, samples, &mut self.text)
+            .unwrap();
+    }
+
+    // Sends a packet, written in its canonical form.
+    fn send(&mut self, packet: &Packet<'_>)
         requires { self.old.sender.sent < 2 ^ 40 }
         ensures first { self.new.sender.first ≡ self.old.sender.first }
-        ensures stands { (records : List (Option PacketValue)) → SenderStands self.old.sender records
-            → SenderStands self.new.sender (records ++ Some packet.now.value ∷ []) }
-        ensures ok { OnOk result ((records : List (Option PacketValue)) → SenderStands self.old.sender records
-            → Appends (O.contents out.old) (O.contents out.new)
-            (packet_text self.old.sender.first records packet.now.value)) }
-        ensures front { OnErr result ((records : List (Option PacketValue)) → SenderStands self.old.sender records
-            → Front (packet_text self.old.sender.first records packet.now.value)
-            (O.contents out.old) (O.contents out.new)) }
-        ensures cause { SinkCause (O.faults out.old) (O.faults out.new)
-            (O.refusals out.old) (O.refusals out.new) result }
-        ensures onward { Onward (O.onto out.old) (O.onto out.new) (O.handed out.old) (O.handed out.new) }
+        ensures sent { (records : List (Option PacketValue)) → SenderStands self.old.sender records
+            → IsGiven self.old.sender.first records (Some packet.now.value) self.new }
     {
-        self.fill(packet);
-        write_all(out, &self.text)
+        self.begin(12 + canon_size(packet) as u16);
+        self.sender.send(packet, &mut self.text).unwrap();
+    }
+
+    // Passes over a lost packet.
+    fn skip(&mut self)
+        requires { self.old.sender.sent < 2 ^ 40 }
+        ensures first { self.new.sender.first ≡ self.old.sender.first }
+        ensures sent { (records : List (Option PacketValue)) → SenderStands self.old.sender records
+            → IsGiven self.old.sender.first records None self.new }
+    {
+        self.text.clear();
+        self.sender.skip();
+    }
+
+    // Sends a packet that may be lent in another form than the canonical one, as with padding bytes that are kept.
+    #[cold]
+    #[inline(never)]
+    fn send_again(&mut self, framing: Framing, bytes: &[u8])
+        requires { self.old.sender.sent < 2 ^ 40 }
+        ensures first { self.new.sender.first ≡ self.old.sender.first }
+        ensures sent { (records : List (Option PacketValue)) → SenderStands self.old.sender records
+            → IsGiven self.old.sender.first records (lent_value framing bytes.now) self.new }
+    {
+        match lent_packet(framing, bytes) {
+            Some(packet) => self.send(&packet),
+            None => self.skip(),
+        }
+    }
+
+    // Gives the sender what a record holds, and makes the text of it.
+    #[inline(always)]
+    fn give(&mut self, found: Found, bytes: &[u8])
+        requires sent { self.old.sender.sent < 2 ^ 40 }
+        requires fits { FoundFits found bytes.now }
+        ensures first { self.new.sender.first ≡ self.old.sender.first }
+        ensures sent { (records : List (Option PacketValue)) → SenderStands self.old.sender records
+            → IsGiven self.old.sender.first records (given_of found bytes.now) self.new }
+    {
+        let Found::Packet { framing, .. } = found else {
+            return self.skip();
+        };
+        match plain_samples(framing, bytes) {
+            Some(samples) => self.send_form(bytes, samples),
+            None => self.send_again(framing, bytes),
+        }
     }
 }
 
@@ -119,6 +167,7 @@ impl RecordJob<Item, Cut> for SendJob {
         &self.opening
     }
 
+    #[inline(always)]
     fn take<O: Sink>(
         &mut self,
         item: &Lent<'_, Item>,
@@ -131,10 +180,8 @@ impl RecordJob<Item, Cut> for SendJob {
         if self.sender.sent() == MOST_RECORDS {
             return Ok(());
         }
-        match given_of(record.found, item.bytes()) {
-            Some(packet) => self.send(&packet, out)?,
-            None => self.sender.skip(),
-        }
+        self.give(record.found, item.bytes());
+        write_all(out, &self.text)?;
         Ok(())
     }
 
@@ -147,16 +194,5 @@ impl RecordJob<Item, Cut> for SendJob {
             })),
             _ => Ok(()),
         }
-    }
-}
-
-// What the sender is given of a record: its packet, or none where it is lost.
-#[inline(always)]
-fn given_of(found: Found, bytes: &[u8]) -> Option<Packet<'_>>
-    ensures { option_map (λ p. p.value) result ≡ given_of found bytes.now }
-{
-    match found {
-        Found::Packet { framing, .. } => lent_packet(framing, bytes),
-        _ => None,
     }
 }

@@ -37,15 +37,15 @@ pub fn dump_record(offset: u32, packet: &[u8], out: &mut Vec<u8>) -> Result<(), 
         < vec_len out.old + length (dump_record_bytes (record_of_packet offset packet.now))) }
     ensures capacity { vec_capacity out.old ≤ vec_capacity out.new }
 {
-    let head = record_head(packet.len() as u16, offset);
+    let head = dump_record_head(packet.len() as u16, offset);
     out.reserve(head.len() + packet.len())?;
     out.extend_from_slice(&head).unwrap();
     out.extend_from_slice(packet).unwrap();
     Ok(())
 }
 
-// The eight bytes before a packet of so many bytes.
-fn record_head(size: u16, offset: u32) -> [u8; 8]
+/// The eight bytes that stand before a whole packet of `size` bytes, at most 65,527. `offset` is in milliseconds.
+pub fn dump_record_head(size: u16, offset: u32) -> [u8; 8]
     requires { size ≤ 65527 }
     ensures { result ≡ dump_record_head size size offset }
 {

@@ -17,7 +17,7 @@ mod stop;
 mod tests;
 
 pub use demo::{DemoHead, DemoReader};
-pub use dump::{dump_head, dump_record};
+pub use dump::{dump_head, dump_record, dump_record_head};
 pub use dump_item::{
     DumpItem, DumpKind, DumpRecordHead, DumpTold, dump_record_length, read_dump_record,
 };

@@ -1,7 +1,7 @@
 //! Sending packets.
 ghost use Rattle.std.specs.Prelude.{◌≡◌, ◌+◌, ◌^◌, ◌<◌, ◌≤◌, ◌++◌, ◌∷◌, [], List, Option, Some, None, false, length, vec_len, vec_capacity, OnOk, OnErr};
 ghost use Rattle.opus_packet.specs.Canonical.{canonical};
-ghost use Rattle.opus_packet.specs.Value.{PacketValue};
+ghost use Rattle.opus_packet.specs.Value.{PacketValue, duration_of};
 ghost use Rattle.rtp_packet.specs.RtpRead.{plain_bytes};
 
 use opus_io::NoMemory;
@@ -80,6 +80,34 @@ impl Sender {
         out.reserve(12 + canon_size(packet) as usize)?;
         push_packet(self.next(), packet, out);
         self.pass(packet.duration());
+        Ok(())
+    }
+
+    /// The same for a packet that lies there in its canonical form already, and lasts so many samples: `form` is the payload.
+    pub fn send_form(
+        &mut self,
+        form: &[u8],
+        samples: u32,
+        out: &mut Vec<u8>,
+    ) -> Result<(), NoMemory>
+        requires sent { self.old.sent < 2 ^ 40 }
+        requires samples { samples ≤ 5760 }
+        ensures ok { OnOk result ((records : List (Option PacketValue)) (v : PacketValue)
+            → SenderStands self.old records → form.now ≡ canonical v
+            → out.new.items ≡ out.old.items ++ packet_bytes self.old.first records v) }
+        ensures stands { OnOk result ((records : List (Option PacketValue)) (v : PacketValue)
+            → SenderStands self.old records → samples ≡ duration_of v
+            → SenderStands self.new (records ++ Some v ∷ [])) }
+        ensures sent { OnOk result (self.new.sent ≡ self.old.sent + 1) }
+        ensures first { self.new.first ≡ self.old.first }
+        ensures length { OnOk result (vec_len out.new ≡ vec_len out.old + (12 + length form.now)) }
+        ensures err { OnErr result (out.new.items ≡ out.old.items) }
+        ensures kept { OnErr result (self.new ≡ self.old) }
+        ensures full { OnErr result (vec_capacity out.old < vec_len out.old + (12 + length form.now)) }
+        ensures capacity { vec_capacity out.old ≤ vec_capacity out.new }
+    {
+        write_rtp(self.next(), form, out)?;
+        self.pass(samples);
         Ok(())
     }
 
