@@ -116,12 +116,12 @@ is_built_of Pad job = false
 is_built_of Apart job = false
 is_built_of Join job = false
 is_built_of Extract job = false
-is_built_of Head job = false
+is_built_of Head job = true
 is_built_of Send job = true
 is_built_of Recv job = false
 is_built_of Replay job = false
 is_built_of Sdp job = false
-is_built_of Make job = false
+is_built_of Make job = true
 is_built_of Trial job = false
 
 -- the program does this job

@@ -54,12 +54,12 @@ impl Job {
             JobKind::Apart => false,
             JobKind::Join => false,
             JobKind::Extract => false,
-            JobKind::Head => false,
+            JobKind::Head => true,
             JobKind::Send => true,
             JobKind::Recv => false,
             JobKind::Replay => false,
             JobKind::Sdp => false,
-            JobKind::Make => false,
+            JobKind::Make => true,
             JobKind::Trial => false,
         }
     }

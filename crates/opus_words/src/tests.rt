@@ -1,4 +1,4 @@
-//! Words and what they stand for. norm and check of one stream, split and send are done so far.
+//! Words and what they stand for.
 use crate::table::Lack;
 use crate::{Form, Job, JobKind, Opt, WordsFault, job_of};
 use opus_feed::Padding;
@@ -166,11 +166,9 @@ pad --size 33554431 = NotBuilt
 apart --streams 255 = NotBuilt
 join --streams 1 = NotBuilt
 extract --streams 255 --stream 254 = NotBuilt
-head = NotBuilt
 recv --pt 0 --ssrc 0 = NotBuilt
 replay = NotBuilt
 sdp = NotBuilt
-make --seed 4294967295 --count 0 = NotBuilt
 trial --count 1000000 = NotBuilt
 ";
 

@@ -1,31 +1,43 @@
--- Which call does a job, and a run that found no memory before it began.
-use Rattle.std.proofs.Common.{◌≡◌, ℕ, ◌<◌, ◌^◌, ◌==◌, Option, Result, Some, None, IfSome, Ok, Err, true, false, refl, sym, subst, eqb-true, arith}
-use Rattle.std.specs.Prelude.{IsSome, IsSomeAnd}
+-- Which call does a job; and a run that found no memory before it began.
+use Rattle.std.proofs.Common.{◌≡◌, ◌≢◌, ℕ, ◌<◌, ◌^◌, ◌==◌, List, Option, Result, Some, None, IfSome, Ok, Err, IsSome, IsSomeAnd, true, false, eqb-true, inl, refl, sym, subst, arith}
 use Rattle.std.specs.Option.{option_map_or}
+use Rattle.std.proofs.KnownBytes.{Appends-nil}
 use Rattle.opus_io.specs.Outside.{Outside}
 use Rattle.opus_words.specs.Fit.{IsFit, IsBetween, IsFormFor, IsNumberFor}
-use Rattle.opus_words.specs.Jobs.{is_built_of, forms_of}
+use Rattle.opus_words.specs.Jobs.{forms_of, is_built_of}
 use Rattle.opus_words.specs.Options.{lack_of, row_of}
 use Rattle.opus_words.specs.declared.ending.Ending.TheVariants.{NoMemory}
 use Rattle.opus_words.specs.declared.fault.UsageKind.{UsageKind}
 use Rattle.opus_words.specs.declared.form.Form.{Form}
 use Rattle.opus_words.specs.declared.job.Job.{Job}
 use Rattle.opus_words.specs.declared.kind.JobKind.{JobKind}
-use Rattle.opus_words.specs.declared.kind.JobKind.TheVariants.{Norm, Check, Split, Send}
+use Rattle.opus_words.specs.declared.kind.JobKind.TheVariants.{Norm, Check, Split, Head, Send, Make}
 use Rattle.opus_words.specs.declared.option.Opt.TheVariants as opt
 use Rattle.pack_jobs.specs.PackEnds.{IsPackKind, IsPackJob, PackEnds, form_in, padding_in, settles_in, ends_in}
 use Rattle.pack_jobs.proofs.PackLemmas.{unstarted_kind, none_settled}
 use Rattle.net_jobs.specs.NetEnds.{IsNetKind, IsNetJob}
 use Rattle.net_jobs.proofs.NetLemmas.{unstarted_net}
 use Rattle.opuspack.specs.declared.finish.Finish.TheVariants.{Ended}
-use Rattle.opuspack.specs.Run.{KindMeans, Meant}
+use Rattle.opuspack.specs.Make.{made_store}
+use Rattle.opuspack.specs.WritesText.{WritesOnly}
+use Rattle.opuspack.proofs.HeadLemmas.{head_unstarted}
+use Rattle.opuspack.specs.Run.{Meant, KindEnds, seed_in, count_in}
 
-is_pack : (kind : JobKind) (job : Job) → is_built_of kind job ≡ true → (kind ≡ Send → ⊥) → IsPackKind kind
+-- it is none of the jobs that another call does
+pub record IsOther (kind : JobKind) : Type 0 where
+  pub head : kind ≢ Head
+  pub send : kind ≢ Send
+  pub make : kind ≢ Make
+
+-- a job that is built and that no other call does is over packets
+is_pack : (kind : JobKind) (job : Job) → is_built_of kind job ≡ true → IsOther kind → IsPackKind kind
 is_pack Norm job built other = tt
 is_pack Check job built other = tt
 is_pack Split job built other = tt
-is_pack Send job built other = absurd (other refl)
-is_pack kind job built other = absurd cc
+is_pack Head job built other = other.head refl
+is_pack Send job built other = other.send refl
+is_pack Make job built other = other.make refl
+is_pack kind job built other = absurd (cc)
 
 some_and : {T : Type 0} → (o : Option T) (P : T → Type 0) → IsSomeAnd o P → IsSome o
 some_and None P is = absurd is
@@ -48,8 +60,8 @@ pack_streams Check job built is number = one_stream job.streams built
 pack_streams Split job built is number = subst (λ o. IfSome o (λ n. n ≡ 1)) (sym number) tt
 pack_streams kind job built is number = absurd is
 
-pub is_pack_job : (job : Job) → (job.kind ≡ Send → ⊥) → IsFit job → IsPackJob job
-is_pack_job job other fit =
+pub is_pack_job : (job : Job) → IsFit job → IsOther job.kind → IsPackJob job
+is_pack_job job fit other =
     let kind = is_pack job.kind job fit.built other in
     record {
       kind = kind;
@@ -68,31 +80,45 @@ is_net_job job sends fit = record {
       (subst (λ kind. IsNumberFor (row_of opt.Pt).values (lack_of opt.Pt kind) job.pt) sends (fit.numbers opt.Pt));
 }
 
--- a job of a kind that found no memory
-unstarted_pack : (job : Job) → IsPackKind job.kind → (limit : ℕ) (s : Outside) (Untouched : Type 0) → Untouched
-    → PackEnds job limit s s Untouched NoMemory
-unstarted_pack job is limit s Untouched same =
+-- ---- memory ran out before anything was read or written
+
+unwritten : (text : List ℕ) (outside : Outside) (Unread Unwritten : Type 0) → Unread → Unwritten
+    → WritesOnly text outside outside Unread Unwritten NoMemory
+unwritten text outside Unread Unwritten unread same = record {
+  unread = unread;
+  writes = record {
+    written = record { count = 0; written = Appends-nil outside.contents };
+    cause = record { written = refl; later = omega arith; wanted = λ is. inl same };
+  };
+}
+
+pack_unstarted : (job : Job) (limit : ℕ) (outside : Outside) (Unread : Type 0) → Unread → IsPackKind job.kind
+    → PackEnds job limit outside outside Unread NoMemory
+pack_unstarted job limit outside Unread unread pack =
     let form = form_in job in
     let padding = padding_in job in
-    unstarted_kind job.kind is job (settles_in form padding) (ends_in form padding) limit s.left s.reads s.contents
-    s.writes s.refusals Untouched same (none_settled form padding)
+    unstarted_kind job.kind pack job (settles_in form padding) (ends_in form padding) limit outside.left outside.reads
+    outside.contents outside.writes outside.refusals Unread unread (none_settled form padding)
 
-unstarted : (kind : JobKind) (job : Job) → job.kind ≡ kind → is_built_of kind job ≡ true → (limit : ℕ) (s : Outside)
-    (Untouched : Type 0) → Untouched → KindMeans kind job limit s s Untouched NoMemory
-unstarted Norm job is built limit s Untouched same =
-    unstarted_pack job (subst IsPackKind (sym is) tt) limit s Untouched same
-unstarted Check job is built limit s Untouched same =
-    unstarted_pack job (subst IsPackKind (sym is) tt) limit s Untouched same
-unstarted Split job is built limit s Untouched same =
-    unstarted_pack job (subst IsPackKind (sym is) tt) limit s Untouched same
-unstarted Send job is built limit s Untouched same =
-    unstarted_net job.kind (subst IsNetKind (sym is) tt) job limit s.left s.reads s.contents s.writes s.refusals
-    Untouched same
-unstarted kind job is built limit s Untouched same = absurd cc
+unstarted : (kind : JobKind) (job : Job) (limit : ℕ) (outside : Outside) (Unread Unwritten : Type 0) → Unread → Unwritten
+    → is_built_of kind job ≡ true → job.kind ≡ kind → KindEnds kind job limit outside outside Unread Unwritten NoMemory
+unstarted Head job limit outside Unread Unwritten unread same built is = head_unstarted limit outside
+unstarted Make job limit outside Unread Unwritten unread same built is =
+    unwritten (made_store (seed_in job) (count_in job)) outside Unread Unwritten unread same
+unstarted Norm job limit outside Unread Unwritten unread same built is =
+    pack_unstarted job limit outside Unread unread (subst IsPackKind (sym is) tt)
+unstarted Check job limit outside Unread Unwritten unread same built is =
+    pack_unstarted job limit outside Unread unread (subst IsPackKind (sym is) tt)
+unstarted Split job limit outside Unread Unwritten unread same built is =
+    pack_unstarted job limit outside Unread unread (subst IsPackKind (sym is) tt)
+unstarted Send job limit outside Unread Unwritten unread same built is =
+    unstarted_net job.kind (subst IsNetKind (sym is) tt) job limit outside.left outside.reads outside.contents outside.writes
+    outside.refusals Unread unread
+unstarted kind job limit outside Unread Unwritten unread same built is = absurd (cc)
 
 pub meant_no_memory : {S O : Type 0} (said : Result Job UsageKind) (limit : ℕ) (seen : S → O → Outside) (source : S)
     (out : O) → ((job : Job) → said ≡ Ok job → IsFit job)
     → Meant said limit (Ended NoMemory) seen source source out out
 meant_no_memory (Ok job) limit seen source out fits =
-    unstarted job.kind job refl (fits job refl).built limit (seen source out) (source ≡ source) refl
+    unstarted job.kind job limit (seen source out) (source ≡ source) (out ≡ out) refl refl (fits job refl).built refl
 meant_no_memory (Err kind) limit seen source out fits = (refl, refl, refl)

@@ -1,3 +1,13 @@
 pub mod NoteLine
 pub mod Finish
 pub mod Run
+pub mod Whole
+pub mod WholeLaws
+pub mod Texts
+pub mod HeadLines
+pub mod Head
+pub mod HeadEnds
+pub mod WritesText
+pub mod Made
+pub mod Make
+pub mod RunMade

@@ -1,30 +1,41 @@
 -- What the whole program does with its words, its input and its output.
-use Rattle.std.specs.Prelude.{◌≡◌, ℕ, Result, Ok, Err}
+use Rattle.std.specs.Prelude.{◌≡◌, ℕ, Result, Ok, Err, unwrap_or}
 use Rattle.opus_io.specs.Outside.{Outside}
 use Rattle.opus_words.specs.declared.job.Job.{Job}
 use Rattle.opus_words.specs.declared.kind.JobKind.{JobKind}
-use Rattle.opus_words.specs.declared.kind.JobKind.TheVariants.{Send}
+use Rattle.opus_words.specs.declared.kind.JobKind.TheVariants as kinds
 use Rattle.opus_words.specs.declared.ending.Ending.{Ending}
 use Rattle.opus_words.specs.declared.ending.Ending.TheVariants.{NoMemory}
 use Rattle.opus_words.specs.declared.fault.UsageKind.{UsageKind}
 use Rattle.pack_jobs.specs.PackEnds.{PackEnds}
 use Rattle.net_jobs.specs.NetEnds.{NetEnds}
+use Rattle.opuspack.specs.HeadEnds.{HeadEnds}
+use Rattle.opuspack.specs.Make.{made_store}
+use Rattle.opuspack.specs.WritesText.{WritesOnly}
 use Rattle.opuspack.specs.declared.finish.Finish.{Finish}
 use Rattle.opuspack.specs.declared.finish.Finish.TheVariants.{Usage, Ended}
 
--- what a job of a kind answers, takes and writes: those over RTP, and those over packets
-abbrev pub KindMeans : JobKind → Job → ℕ → Outside → Outside → Type 0 → Ending → Type 0
-KindMeans Send job = NetEnds job
-KindMeans kind job = PackEnds job
+-- the seed of made records, and how many are made
+abbrev pub seed_in : Job → ℕ
+seed_in job = unwrap_or job.seed 0
 
-abbrev pub JobMeans : Job → ℕ → Outside → Outside → Type 0 → Ending → Type 0
-JobMeans job = KindMeans job.kind job
+abbrev pub count_in : Job → ℕ
+count_in job = unwrap_or job.count 0
+
+-- How the job of a kind ended: one line a job that isn't over packets. Unread and Unwritten say that the source and the
+-- sink are as they were.
+abbrev pub KindEnds : JobKind → Job → ℕ → Outside → Outside → Type 0 → Type 0 → Ending → Type 0
+KindEnds kinds.Head job limit before after Unread Unwritten ending = HeadEnds limit before after ending
+KindEnds kinds.Send job limit before after Unread Unwritten ending = NetEnds job limit before after Unread ending
+KindEnds kinds.Make job limit before after Unread Unwritten ending =
+    WritesOnly (made_store (seed_in job) (count_in job)) before after Unread Unwritten ending
+KindEnds kind job limit before after Unread Unwritten ending = PackEnds job limit before after Unread ending
 
 -- Where the words stand for a job, it ended as the job's meaning says: these were the source and the sink, and these
 -- they are. Where the words stand for none, the answer is their usage kind, or want of memory, and both are as they were.
 abbrev pub Meant : {S O : Type 0} → Result Job UsageKind → ℕ → Finish → (S → O → Outside) → S → S → O → O → Type 0
 Meant (Ok job) limit (Ended ending) seen source source' out out' =
-    JobMeans job limit (seen source out) (seen source' out') (source' ≡ source) ending
+    KindEnds job.kind job limit (seen source out) (seen source' out') (source' ≡ source) (out' ≡ out) ending
 Meant (Ok job) limit (Usage kind) seen source source' out out' = ⊥
 Meant (Err kind) limit (Usage told) seen source source' out out' =
     (told ≡ kind) × (source' ≡ source) × (out' ≡ out)

@@ -3,11 +3,20 @@
 
 mod arguments;
 mod finish;
+mod head;
+mod head_texts;
+pub mod laws;
 mod line;
+mod made;
+mod make;
+mod never;
 mod run;
+mod run_made;
 mod status;
 #[cfg(test)]
 mod tests;
+mod texts;
+mod whole;
 
 use crate::arguments::words_of;
 use crate::run::{max_input, run};

@@ -5,9 +5,11 @@ ghost use Rattle.opus_words.specs.Words.{job_of_words};
 ghost use Rattle.pack_jobs.specs.PackEnds.{seen_as};
 ghost use Rattle.opuspack.specs.declared.finish.Finish.{Finish};
 ghost use Rattle.opuspack.specs.Finish.{status_of, note_of, Noted};
-ghost use Rattle.opuspack.specs.Run.{JobMeans, Meant};
+ghost use Rattle.opuspack.specs.Run.{Meant, KindEnds, seed_in, count_in};
 
 use crate::finish::Finish;
+use crate::head::head_job;
+use crate::make::make_job;
 use crate::status::Status;
 use net_jobs::net_job;
 use opus_io::{Sink, Source};
@@ -74,14 +76,14 @@ fn do_job<S: Source, O: Sink>(
         source.old source.new out.old out.new }
 {
     match job_of(alloc, words) {
-        Ok(job) => Finish::Ended(end_of(alloc, &job, limit, source, out)),
+        Ok(job) => Finish::Ended(do_kind(alloc, &job, limit, source, out)),
         Err(WordsFault::Usage(kind)) => Finish::Usage(kind),
         Err(WordsFault::NoMemory) => Finish::Ended(Ending::NoMemory),
     }
 }
 
-// Does the job, and tells how it ended.
-fn end_of<S: Source, O: Sink>(
+// Does a job: one line a job, and one for all jobs over packets.
+fn do_kind<S: Source, O: Sink>(
     alloc: Global,
     job: &Job,
     limit: u64,
@@ -91,13 +93,29 @@ fn end_of<S: Source, O: Sink>(
     requires some { 1 ≤ limit }
     requires most { limit ≤ 2 ^ 40 }
     requires fit { IsFit job.now }
-    ensures { JobMeans job.now limit
+    ensures { KindEnds job.now.kind job.now limit
         (seen_as (S.left source.old) (S.faults source.old) (O.contents out.old) (O.faults out.old) (O.refusals out.old))
         (seen_as (S.left source.new) (S.faults source.new) (O.contents out.new) (O.faults out.new) (O.refusals out.new))
-        (source.new ≡ source.old) result }
+        (source.new ≡ source.old) (out.new ≡ out.old) result }
 {
     match job.kind {
+        JobKind::Head => head_job(alloc, limit, source, out),
         JobKind::Send => net_job(alloc, job, limit, source, out),
+        JobKind::Make => make_job(alloc, seed_in(job), count_in(job), out),
         _ => pack_job(alloc, job, limit, source, out),
     }
+}
+
+// What records are made from.
+fn seed_in(job: &Job) -> u32
+    ensures { result ≡ seed_in job.now }
+{
+    job.seed.unwrap_or(0)
+}
+
+// How many records are made.
+fn count_in(job: &Job) -> u32
+    ensures { result ≡ count_in job.now }
+{
+    job.count.unwrap_or(0)
 }

@@ -9,6 +9,8 @@ use std::test::Fail;
 
 mod capture;
 mod check;
+mod head;
+mod make;
 mod norm;
 mod outside;
 mod send;

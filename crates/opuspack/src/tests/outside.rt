@@ -11,6 +11,8 @@ const SELF: &[&str] = &["norm", "--form", "self"];
 
 const DEMO: &[&str] = &["norm", "--form", "demo"];
 
+const HEAD: &[&str] = &["head"];
+
 const CHECK: &[&str] = &["check", "--form", "demo"];
 
 const SEND: &[&str] = &["send"];
@@ -35,7 +37,7 @@ type Settled = (
     &'static [usize],
 );
 
-static SETTLED: [Settled; 5] = [
+static SETTLED: [Settled; 6] = [
     (
         NORM,
         b"\xfa\x02\xaa\xbb\xcc\xdd",
@@ -79,6 +81,12 @@ static SETTLED: [Settled; 5] = [
             39, 39, 39, 39, 39, 39, 39, 39, 39, 39, 61, 61, 61, 61, 61, 61, 61, 61, 61, 61, 83, 83,
             83, 83, 83, 83, 83, 83, 83, 83, 105,
         ],
+    ),
+    (
+        HEAD,
+        b"OpusHead\x01\x01\x00\x00\x00\x00\x00\x00\x00\x00\x03\x01\x00\x00\x80",
+        b"version 1\nchannels 1\npreskip 0\nrate 0\ngain 0\nfamily 3\nstreams 1\ncoupled 0\nchannel 0: matrix\nmatrix: -32768\n",
+        &[0; 24],
     ),
 ];
 

@@ -1,8 +1,13 @@
 use Rattle.opuspack.proofs.RunLemmas.{is_net_job, is_pack_job}
-use Rattle.opuspack.proofs.run.end_of.Goals as goal
+use Rattle.opuspack.proofs.run.do_kind.Goals as goal
 
 pub net_job-requires-clause-job : goal.net_job-requires-clause-job
 net_job-requires-clause-job g c = is_net_job c.args.job.now c.in-Send.is c.requires.fit
 
 pub pack_job-requires-clause-job : goal.pack_job-requires-clause-job
-pack_job-requires-clause-job g c = is_pack_job c.args.job.now c.in_default.not-Send c.requires.fit
+pack_job-requires-clause-job g c =
+    is_pack_job c.args.job.now c.requires.fit (record {
+      head = c.in_default.not-Head;
+      send = c.in_default.not-Send;
+      make = c.in_default.not-Make;
+    })

@@ -1,0 +1,12 @@
+use Rattle.std.proofs.Common.{◌≡◌, List, ℕ, subst}
+use Rattle.opuspack.specs.WritesText.{WritesText}
+use Rattle.opuspack.proofs.MakeLemmas.{make_text}
+use Rattle.opuspack.proofs.make.make_job.Goals as goal
+
+pub returns : goal.returns
+returns g c =
+    let out = c.args.out.now in
+    let new = c.run_made.new.out in
+    subst (λ (t : List ℕ). WritesText t (g.O.Sink.contents out) (g.O.Sink.contents new) (g.O.Sink.faults out) (g.O.Sink.faults new)
+    (g.O.Sink.refusals out) (g.O.Sink.refusals new) (new ≡ out) c.run_made.result)
+    (make_text c.args.seed c.args.count) c.run_made.ensures
