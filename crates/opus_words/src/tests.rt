@@ -87,6 +87,25 @@ fn takes_send_with_defaults_and_greatest_numbers(rt: HostRuntime) -> Result<(), 
     Ok(())
 }
 
+#[test]
+fn takes_split_with_its_frames(rt: HostRuntime) -> Result<(), Fail> {
+    let rows = [
+        ("split", Form::Demo, 1),
+        ("split --frames 48", Form::Demo, 48),
+        ("--frames=5 split --form self", Form::SelfDelimited, 5),
+    ];
+    for (line, form, frames) in rows {
+        let mut split = NORM;
+        split.kind = JobKind::Split;
+        split.form = Some(form);
+        split.streams = None;
+        split.frames = Some(frames);
+        split.padding = None;
+        assert_eq!(rt; answer(rt.alloc(), line)?, Ok(split), "{line}");
+    }
+    Ok(())
+}
+
 /// Each row has words, and then the usage kind that they give.
 const ROWS: &str = "\
 norm --loud yes = Words
