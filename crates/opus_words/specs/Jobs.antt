@@ -110,7 +110,7 @@ abbrev pub is_built_of : JobKind → Job → Bool
 is_built_of Norm job = is_of_streams job 1
 is_built_of Check job = is_of_streams job 1
 is_built_of Show job = false
-is_built_of Merge job = false
+is_built_of Merge job = true
 is_built_of Split job = true
 is_built_of Pad job = false
 is_built_of Apart job = false

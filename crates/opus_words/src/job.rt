@@ -48,7 +48,7 @@ impl Job {
             JobKind::Norm => self.is_of_streams(1),
             JobKind::Check => self.is_of_streams(1),
             JobKind::Show => false,
-            JobKind::Merge => false,
+            JobKind::Merge => true,
             JobKind::Split => true,
             JobKind::Pad => false,
             JobKind::Apart => false,

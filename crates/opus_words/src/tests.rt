@@ -180,7 +180,6 @@ norm --form self --streams 2 = Value(Streams)
 norm --streams 2 = NotBuilt
 check --streams 2 = NotBuilt
 show --form self = NotBuilt
-merge --group 48 = NotBuilt
 pad --size 33554431 = NotBuilt
 apart --streams 255 = NotBuilt
 join --streams 1 = NotBuilt

@@ -11,7 +11,7 @@ use Rattle.opus_words.specs.declared.fault.UsageKind.{UsageKind}
 use Rattle.opus_words.specs.declared.form.Form.{Form}
 use Rattle.opus_words.specs.declared.job.Job.{Job}
 use Rattle.opus_words.specs.declared.kind.JobKind.{JobKind}
-use Rattle.opus_words.specs.declared.kind.JobKind.TheVariants.{Norm, Check, Split, Head, Send, Make}
+use Rattle.opus_words.specs.declared.kind.JobKind.TheVariants.{Norm, Check, Merge, Split, Head, Send, Make}
 use Rattle.opus_words.specs.declared.option.Opt.TheVariants as opt
 use Rattle.pack_jobs.specs.PackEnds.{IsPackKind, IsPackJob, PackEnds, form_in, padding_in, settles_in, ends_in}
 use Rattle.pack_jobs.proofs.PackLemmas.{unstarted_kind, none_settled}
@@ -33,6 +33,7 @@ pub record IsOther (kind : JobKind) : Type 0 where
 is_pack : (kind : JobKind) (job : Job) → is_built_of kind job ≡ true → IsOther kind → IsPackKind kind
 is_pack Norm job built other = tt
 is_pack Check job built other = tt
+is_pack Merge job built other = tt
 is_pack Split job built other = tt
 is_pack Head job built other = other.head refl
 is_pack Send job built other = other.send refl
@@ -46,6 +47,7 @@ some_and (Some x) P is = refl
 pack_form : (kind : JobKind) → IsPackKind kind → (form : Option Form) → IsFormFor (forms_of kind) form → IsSome form
 pack_form Norm is form fits = some_and form _ fits
 pack_form Check is form fits = some_and form _ fits
+pack_form Merge is form fits = some_and form _ fits
 pack_form Split is form fits = some_and form _ fits
 pack_form kind is form fits = absurd is
 
@@ -57,6 +59,7 @@ pack_streams : (kind : JobKind) (job : Job) → is_built_of kind job ≡ true �
     → IsNumberFor (row_of opt.Streams).values (lack_of opt.Streams kind) job.streams → IfSome job.streams (λ n. n ≡ 1)
 pack_streams Norm job built is number = one_stream job.streams built
 pack_streams Check job built is number = one_stream job.streams built
+pack_streams Merge job built is number = subst (λ o. IfSome o (λ n. n ≡ 1)) (sym number) tt
 pack_streams Split job built is number = subst (λ o. IfSome o (λ n. n ≡ 1)) (sym number) tt
 pack_streams kind job built is number = absurd is
 
@@ -108,6 +111,8 @@ unstarted Make job limit outside Unread Unwritten unread same built is =
 unstarted Norm job limit outside Unread Unwritten unread same built is =
     pack_unstarted job limit outside Unread unread (subst IsPackKind (sym is) tt)
 unstarted Check job limit outside Unread Unwritten unread same built is =
+    pack_unstarted job limit outside Unread unread (subst IsPackKind (sym is) tt)
+unstarted Merge job limit outside Unread Unwritten unread same built is =
     pack_unstarted job limit outside Unread unread (subst IsPackKind (sym is) tt)
 unstarted Split job limit outside Unread Unwritten unread same built is =
     pack_unstarted job limit outside Unread unread (subst IsPackKind (sym is) tt)

@@ -11,6 +11,7 @@ mod capture;
 mod check;
 mod head;
 mod make;
+mod merge;
 mod norm;
 mod outside;
 mod send;

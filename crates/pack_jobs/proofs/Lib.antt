@@ -5,6 +5,9 @@ pub mod RecordLemmas
 pub mod EachLemmas
 pub mod PieceLemmas
 pub mod SplitLemmas
+pub mod MergeLemmas
+pub mod GroupLemmas
+pub mod GroupFrames
 pub mod NormLemmas
 pub mod CheckLemmas
 pub mod SameLemmas

@@ -28,6 +28,7 @@ use Rattle.pack_records.proofs.ShowsLemmas.{none_first, nil_early}
 use Rattle.pack_jobs.specs.declared.refusal.Refusal.{Refusal}
 use Rattle.pack_jobs.specs.Norm.{norm}
 use Rattle.pack_jobs.specs.Check.{check}
+use Rattle.pack_jobs.specs.Merge.{merge}
 use Rattle.pack_jobs.specs.Split.{split}
 use Rattle.pack_jobs.specs.PackEnds.{seen_as, place_of, MeaningEnds, KindEnds, JobEnds, PackEnds, IsPackKind, form_in, padding_in, most_in, settles_in, ends_in}
 
@@ -85,7 +86,7 @@ pub unstarted_kind : (kind : JobKind) → IsPackKind kind → (job : Job)
 unstarted_kind kinds.Norm is job = unstarted_ends (norm (form_in job) (padding_in job))
 unstarted_kind kinds.Check is job = unstarted_ends (check (form_in job))
 unstarted_kind kinds.Show is job = absurd is
-unstarted_kind kinds.Merge is job = absurd is
+unstarted_kind kinds.Merge is job = unstarted_ends (merge (form_in job) job.group)
 unstarted_kind kinds.Split is job = unstarted_ends (split (form_in job) (most_in job))
 unstarted_kind kinds.Pad is job = absurd is
 unstarted_kind kinds.Apart is job = absurd is

@@ -8,6 +8,9 @@ pub mod Written
 pub mod Each
 pub mod Split
 pub mod SplitStands
+pub mod Merge
+pub mod MergeStands
+pub mod Groups
 pub mod SameRecords
 pub mod PackEnds
 pub mod Again

@@ -15,7 +15,7 @@ use Rattle.opus_feed.specs.declared.padding.Padding.TheVariants.{Drop}
 use Rattle.opus_words.specs.declared.form.Form.{Form}
 use Rattle.opus_words.specs.declared.form.Form.TheVariants.{Raw, Demo, SelfDelimited}
 use Rattle.opus_words.specs.declared.kind.JobKind.{JobKind}
-use Rattle.opus_words.specs.declared.kind.JobKind.TheVariants.{Norm, Check, Split}
+use Rattle.opus_words.specs.declared.kind.JobKind.TheVariants.{Norm, Check, Merge, Split}
 use Rattle.opus_words.specs.declared.job.Job.{Job}
 use Rattle.opus_words.specs.declared.ending.Ending.{Ending}
 use Rattle.opus_words.specs.declared.ending.Ending.TheVariants.{Ok, Refused, ReadFault, WriteFault, NoMemory, InputLimit}
@@ -28,12 +28,14 @@ use Rattle.pack_jobs.specs.declared.refusal.Refusal.{Refusal}
 use Rattle.pack_jobs.specs.Refusal.{Tells}
 use Rattle.pack_jobs.specs.Norm.{norm}
 use Rattle.pack_jobs.specs.Check.{check}
+use Rattle.pack_jobs.specs.Merge.{merge}
 use Rattle.pack_jobs.specs.Split.{split}
 
 -- the jobs over packets
 abbrev pub IsPackKind : JobKind → Type 0
 IsPackKind Norm = Unit {0}
 IsPackKind Check = Unit {0}
+IsPackKind Merge = Unit {0}
 IsPackKind Split = Unit {0}
 IsPackKind kind = ⊥
 
@@ -102,6 +104,7 @@ abbrev pub KindEnds : JobKind → Job → (List ℕ → List (Shown Item) → Ty
     → (List ℕ → List (Shown Item) → Option Cut → Type 0) → ℕ → Outside → Outside → Type 0 → Ending → Type 0
 KindEnds Norm job = MeaningEnds (norm (form_in job) (padding_in job))
 KindEnds Check job = MeaningEnds (check (form_in job))
+KindEnds Merge job = MeaningEnds (merge (form_in job) job.group)
 KindEnds Split job = MeaningEnds (split (form_in job) (most_in job))
 KindEnds kind job = λ Settles Ends limit before after Untouched result. ⊥
 

@@ -6,7 +6,7 @@ use Rattle.opus_packet.specs.declared.fault.Fault as faults
 use Rattle.opus_words.specs.declared.ending.JobFault.{JobFault}
 use Rattle.pack_records.specs.declared.item.Item.{Item}
 use Rattle.pack_jobs.specs.declared.refusal.Why.{Why}
-use Rattle.pack_jobs.specs.declared.refusal.Why.TheVariants.{Fault, PaddingLong, StoreCut}
+use Rattle.pack_jobs.specs.declared.refusal.Why.TheVariants.{Fault, PaddingLong, StoreCut, MixedKind, TooLong}
 use Rattle.pack_jobs.specs.declared.refusal.Refusal.{Refusal}
 
 -- a number or place as it is told, in 64 bits: itself, up to the greatest of them
@@ -40,6 +40,8 @@ abbrev pub refusal_text : Why → List ℕ
 refusal_text (Fault f) = fault_text f
 refusal_text PaddingLong = codes "padding long"
 refusal_text StoreCut = codes "store cut"
+refusal_text MixedKind = codes "mixed kind"
+refusal_text TooLong = codes "too long"
 
 -- the refusal that a program's fault tells
 abbrev pub Tells : JobFault → Refusal → Type 0

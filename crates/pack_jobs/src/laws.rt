@@ -1,6 +1,6 @@
 //! Laws on the jobs over packets: each is the contract of a function that does nothing.
 ghost use Rattle.std.specs.List.{AllByRecursion};
-ghost use Rattle.std.specs.Prelude.{◌≡◌, ◌≢◌, ◌↔◌, ◌≤◌, ◌<◌, ◌^◌, ℕ, List, [], ◌∷◌, ◌++◌, Some, None, length, flat_map};
+ghost use Rattle.std.specs.Prelude.{◌≡◌, ◌≢◌, ◌↔◌, ◌≤◌, ◌<◌, ◌^◌, ℕ, List, [], ◌∷◌, ◌++◌, Option, Some, None, IfSome, length, flat_map};
 ghost use Rattle.job_loop.specs.Shown.{Shown};
 ghost use Rattle.job_loop.specs.Meaning.{going, broke, outcome, run_text};
 ghost use Rattle.job_loop.specs.declared.input_end.InputEnd.{InputEnd};
@@ -24,6 +24,8 @@ ghost use Rattle.pack_jobs.specs.Written.{normal_record, AreTaken, FirstRefused,
 ghost use Rattle.pack_jobs.specs.SameRecords.{AreRecordsOf, AgreeOneByOne};
 ghost use Rattle.pack_jobs.specs.Each.{Made, each, texts_from, AreWritten, FirstRefusedBy};
 ghost use Rattle.pack_jobs.specs.Split.{pieces, split_record, split, HasFullPieces};
+ghost use Rattle.pack_jobs.specs.Merge.{merge};
+ghost use Rattle.pack_jobs.specs.Groups.{Part, IsCutInto, values_of, frames_of, texts_of, part_frames, AreLent};
 ghost use Rattle.pack_jobs.specs.PackEnds.{ends_in};
 ghost use Rattle.pack_jobs.specs.Again.{IsReadAgain};
 
@@ -100,6 +102,20 @@ pub fn pieces_keep_all_frames()
     ensures packets { (most : ℕ) (v : PacketValue) → 1 ≤ most → IsPacketValue v
         → AllByRecursion IsPacketValue (pieces most v) }
     ensures counts { (most : ℕ) (v : PacketValue) → 1 ≤ most → HasFullPieces most (pieces most v) }
+{}
+
+/// What merge writes is the records in groups, cut at each lost record and behind every so many packets: each group as
+/// one packet with the range of its last record, and each lost record as it is.
+pub fn merge_writes_each_group_as_one_packet()
+    ensures written { (form : Form) (most : Option ℕ) (rs : List (Shown Item)) (text : List ℕ)
+        → IfSome most (λ n. 1 ≤ n) → AreLent rs → outcome (merge form most) rs ends.Closed ≡ going text tt
+        → (parts : List Part) × IsCutInto most rs parts × (text ≡ texts_of form parts) }
+{}
+
+/// No frame is lost where records are merged: the groups have all frames of the records, in order.
+pub fn groups_keep_all_frames()
+    ensures frames { (most : Option ℕ) (rs : List (Shown Item)) (parts : List Part) → IsCutInto most rs parts
+        → flat_map part_frames parts ≡ frames_of (values_of rs) }
 {}
 
 /// Two inputs that norm takes have one output exactly where their records agree one by one: in range, in what is lost,

@@ -6,6 +6,7 @@
 mod check;
 pub mod laws;
 mod line;
+mod merge;
 mod norm;
 mod pack;
 mod record;
@@ -16,6 +17,7 @@ mod tests;
 mod text;
 
 pub use check::Check;
+pub use merge::Merge;
 pub use norm::Norm;
 pub use pack::{pack_job, run_made};
 pub use refusal::{Refusal, Why, refusal_at};

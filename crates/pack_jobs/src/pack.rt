@@ -5,6 +5,7 @@ ghost use Rattle.job_loop.specs.Meaning.{Meaning};
 ghost use Rattle.pack_jobs.specs.PackEnds.{IsPackKind, IsPackJob, PackEnds, JobEnds, MeaningEnds, TellsEnding, seen_as, place_of, form_in, padding_in, most_in};
 
 use crate::check::Check;
+use crate::merge::Merge;
 use crate::norm::Norm;
 use crate::refusal::Refusal;
 use crate::split::Split;
@@ -142,6 +143,10 @@ where
         JobKind::Check => {
             let mut check = Check::new(form);
             run_ended(alloc, limit, records, &mut check, source, out)
+        }
+        JobKind::Merge => {
+            let merge = Merge::new(alloc, form, job.group);
+            run_made(alloc, limit, records, merge, source, out)
         }
         JobKind::Split => {
             let split = Split::new(alloc, form, most_in(job));

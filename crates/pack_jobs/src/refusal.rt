@@ -14,6 +14,10 @@ pub enum Why {
     PaddingLong,
     /// The store ends within a record.
     StoreCut,
+    /// A packet has another configuration or other channels than those of its group before it.
+    MixedKind,
+    /// A packet and those of its group before it last more than 120 ms.
+    TooLong,
 }
 
 /// A refused input. Its text is made at the end of the run alone.

@@ -89,6 +89,8 @@ fn refusal_text(why: Why) -> ArrayString<64>
         Why::Fault(fault) => fault_text(fault),
         Why::PaddingLong => text_of("padding long"),
         Why::StoreCut => text_of("store cut"),
+        Why::MixedKind => text_of("mixed kind"),
+        Why::TooLong => text_of("too long"),
     }
 }
 

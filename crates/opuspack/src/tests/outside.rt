@@ -21,6 +21,10 @@ const SEND: &[&str] = &["send"];
 const THREE: &[u8] =
     b"\x00\x00\x00\x02\x00\x00\x00\x00\xf8\xaa\x00\x00\x00\x02\x00\x00\x00\x00\xf8\xaa\x00\x00\x00\x02\x00\x00\x00\x00\xf8\xaa";
 
+// A store of three records with packets and ranges of their own.
+const DIFFERENT: &[u8] =
+    b"\0\0\0\x02\0\0\0\x01\xf8\xaa\0\0\0\x02\0\0\0\x02\xf8\xbb\0\0\0\x02\0\0\0\x03\xf8\xcc";
+
 // A store whose second record is bad behind two of its ten payload bytes.
 const BAD: &[u8] =
     b"\x00\x00\x00\x02\x00\x00\x00\x00\xf8\xaa\x00\x00\x00\x0a\x00\x00\x00\x00\xfb\x07\x00\x00\x00\x00";
@@ -37,7 +41,7 @@ type Settled = (
     &'static [usize],
 );
 
-static SETTLED: [Settled; 6] = [
+static SETTLED: [Settled; 9] = [
     (
         NORM,
         b"\xfa\x02\xaa\xbb\xcc\xdd",
@@ -57,6 +61,21 @@ static SETTLED: [Settled; 6] = [
         &[
             0, 0, 0, 0, 0, 0, 0, 0, 0, 0, 10, 10, 10, 10, 10, 10, 10, 10, 10, 10, 20, 20, 20, 20,
             20, 20, 20, 20, 20, 20, 30,
+        ],
+    ),
+    (
+        &["merge"],
+        DIFFERENT,
+        b"\0\0\0\x05\0\0\0\x03\xfb\x03\xaa\xbb\xcc",
+        &[0; 31],
+    ),
+    (
+        &["merge", "--group", "2"],
+        DIFFERENT,
+        b"\0\0\0\x03\0\0\0\x02\xf9\xaa\xbb\0\0\0\x02\0\0\0\x03\xf8\xcc",
+        &[
+            0, 0, 0, 0, 0, 0, 0, 0, 0, 0, 0, 0, 0, 0, 0, 0, 0, 0, 0, 0, 11, 11, 11, 11, 11, 11, 11,
+            11, 11, 11, 11,
         ],
     ),
     (
