@@ -285,6 +285,7 @@ impl Head {
         ensures value { header_value result ≡ header_in self.now }
         ensures sized { AreSized result.sizes }
         ensures code { result.toc.code ≡ result.shape.code }
+        ensures used { result.used ≡ used }
         ensures tail { result.tail ≡ padding_data self.now.shape.pad }
         ensures small { result.tail < 2 ^ 24 }
     {
