@@ -28,7 +28,7 @@ use Rattle.opus_multi.specs.MultiStands.{Reads, HasBroken, HasUnequal}
 use Rattle.opus_multi.specs.MultiAnswers.{IsSomeMultistream}
 use Rattle.opus_multi.specs.MultiTurns.{SameChoices, HasLast, LastReads, EndReads}
 use Rattle.opus_multi.proofs.ReadLemmas.{lt_or_ge, framing_more, framing_past, told_one, told_other, unequal_within, length-durations}
-use Rattle.opus_multi.proofs.ReadsLemmas.{reading_answer, count_parts, parts_push, told_push}
+use Rattle.opus_multi.proofs.TurnLemmas.{reading_answer, count_parts, parts_push, told_push}
 
 -- the stream that has begun doesn't read
 pub ends_broken : (old new : MultiFeed) (k : ℕ) (f : Fault) (bytes : List ℕ) → k ≡ length old.parts.items

@@ -6,7 +6,7 @@ pub mod FormsLemmas
 pub mod PrefixLemmas
 pub mod StandardFacts
 pub mod RoomLemmas
-pub mod ReadsLemmas
+pub mod TurnLemmas
 pub mod StandsLemmas
 pub mod EndLemmas
 pub mod TakenLemmas

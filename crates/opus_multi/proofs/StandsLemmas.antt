@@ -23,7 +23,7 @@ use Rattle.opus_multi.proofs.StreamsLemmas.{stand_more, stand_bytes}
 use Rattle.opus_multi.proofs.ReadLemmas.{framing_more}
 use Rattle.opus_multi.proofs.OnlyLemmas.{broken_none}
 use Rattle.opus_multi.proofs.PrefixLemmas.{prefix-becomes}
-use Rattle.opus_multi.proofs.ReadsLemmas.{reading_answer}
+use Rattle.opus_multi.proofs.TurnLemmas.{reading_answer}
 
 -- more bytes can come
 

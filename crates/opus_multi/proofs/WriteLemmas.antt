@@ -1,8 +1,12 @@
 -- Forms written one after another.
-use Rattle.std.proofs.Common.{◌≡◌, ℕ, zero, suc, ◌+◌, ◌<◌, ◌≤◌, List, [], ◌∷◌, ◌++◌, length, take, map, flat_map, get_or, Result, Ok, Err, OnErr, refl, ap, sym, arith, length-append}
+use Rattle.std.proofs.Common.{◌≡◌, ℕ, zero, suc, ◌+◌, ◌<◌, ◌≤◌, List, [], ◌∷◌, ◌++◌, length, take, map, flat_map, get_or, Result, Ok, Err, OnErr, refl, ap, sym, ◌∙◌, arith, length-append}
 use Rattle.std.specs.Result.{IsOk}
 use Rattle.std.proofs.lemmas.List.{append_assoc}
-use Rattle.opus_multi.specs.Forms.{forms}
+use Rattle.opus_packet.specs.Held.{HeldRead}
+use Rattle.opus_packet.specs.Canonical.{canonical, canonical_self_delimited}
+use Rattle.opus_multi.specs.declared.form.Form.TheVariants.{Canonical, CanonicalSelf}
+use Rattle.opus_multi.specs.WrittenForms.{spelled_as}
+use Rattle.opus_multi.specs.Forms.{forms, canonical_multistream}
 
 pub forms_push : {A : Type 0} (self whole : A → List ℕ) (xs : List A) (x : A)
     → forms self whole (xs ++ x ∷ []) ≡ flat_map self xs ++ whole x
@@ -16,6 +20,12 @@ pub forms_map : {A B : Type 0} (self whole : B → List ℕ) (h : A → B) (xs :
 forms_map self whole h [] = refl
 forms_map self whole h (x ∷ []) = refl
 forms_map self whole h (x ∷ y ∷ ys) = ap (λ l. self (h x) ++ l) (forms_map self whole h (y ∷ ys))
+
+pub forms_canonical : {A : Type 0} (held : A → HeldRead) (xs : List A)
+    → forms (spelled_as CanonicalSelf) (spelled_as Canonical) (map held xs) ≡ canonical_multistream (map (λ a. (held a).value) xs)
+forms_canonical held xs =
+    forms_map (spelled_as CanonicalSelf) (spelled_as Canonical) held xs
+    ∙ sym (forms_map canonical_self_delimited canonical (λ a. (held a).value) xs)
 
 -- what the first of them take, and the next one, is no more than all take
 room_at : {A : Type 0} (f : A → List ℕ) (xs : List A) (i : ℕ) (x : A) → i < length xs → x ≡ get_or xs i x

@@ -5,6 +5,7 @@ pub mod Multistream
 pub mod MultistreamFault
 pub mod MultistreamPrefix
 pub mod Forms
+pub mod WrittenForms
 pub mod Readings
 pub mod Joins
 pub mod Parts

@@ -1,12 +1,11 @@
 -- The parts of a multistream packet's streams, as a feed keeps them.
 use Rattle.std.specs.Prelude.{◌≡◌, ℕ, ◌+◌, ◌<◌, List, length, map}
-use Rattle.opus_packet.specs.Tail.{kept_bytes}
 use Rattle.opus_packet.specs.Read.{PacketRead}
 use Rattle.opus_self.specs.BecomesSelf.{BeginsWithNone}
 use Rattle.opus_feed.specs.declared.padding.Padding.{Padding}
 use Rattle.opus_feed.specs.Tails.{tail_kept}
 use Rattle.opus_multi.specs.declared.part.Part.{Part}
-use Rattle.opus_multi.specs.Parts.{dropped_of}
+use Rattle.opus_multi.specs.Parts.{held_in, dropped_of}
 use Rattle.opus_multi.specs.Streams.{SpelledStream, StandFirst, AreStreams}
 use Rattle.opus_multi.specs.Durations.{HaveOneDuration}
 use Rattle.opus_multi.specs.Multistream.{durations_of}
@@ -18,7 +17,7 @@ read_with padding s = record { value = s.value; shape = s.shape; size = s.size; 
 -- the part of a packet
 abbrev pub part_as : PacketRead → Part
 part_as p = record {
-  held = record { value = p.value; tail = kept_bytes p.tail };
+  held = held_in p;
   shape = p.shape;
   size = p.size;
   dropped = dropped_of p.tail;

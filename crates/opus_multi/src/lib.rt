@@ -4,6 +4,7 @@
 
 mod durations;
 mod fault;
+mod form;
 mod joined;
 pub mod laws;
 mod list;

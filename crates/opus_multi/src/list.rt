@@ -1,20 +1,17 @@
 //! The written forms appended to a list.
-ghost use Rattle.std.specs.Prelude.{◌≡◌, ◌+◌, ◌++◌, ◌≤◌, List, length, map, vec_len, vec_capacity, OnOk, OnErr, IfSome, flat_map};
+ghost use Rattle.std.specs.Prelude.{◌≡◌, ◌+◌, ◌++◌, ◌≤◌, length, map, vec_len, vec_capacity, OnOk, OnErr, IfSome, flat_map};
 ghost use Rattle.std.specs.List.{AllByRecursion};
 ghost use Rattle.opus_packet.specs.Tail.{kept, IsKept};
 ghost use Rattle.opus_packet.specs.Held.{HeldRead};
-ghost use Rattle.opus_packet.specs.Canonical.{canonical, canonical_self_delimited};
-ghost use Rattle.opus_multi.specs.Forms.{canonical_multistream, kept_multistream, kept_of, kept_self_of};
+ghost use Rattle.opus_multi.specs.Forms.{forms, canonical_multistream, kept_multistream};
+ghost use Rattle.opus_multi.specs.WrittenForms.{spelled_as};
 ghost use Rattle.opus_multi.specs.Joins.{held_durations};
 ghost use Rattle.opus_multi.specs.Durations.{HaveOneDuration};
 
+use crate::form::Form;
 use crate::part::Part;
 use opus_io::NoMemory;
 use opus_packet::{Held, Packet};
-use opus_writer::{
-    canon_self_size, canon_size, keep_self_size, keep_size, write_canon, write_canon_self,
-    write_keep, write_keep_self,
-};
 
 /// What owns a packet's value.
 pub(crate) trait Owns {
@@ -69,30 +66,7 @@ pub fn write_multi_kept(parts: &[Part], out: &mut Vec<u8>) -> Result<(), NoMemor
         ≡ out.old.items ++ kept_multistream (map (λ p. p.held) parts.now)) }
     ensures err { OnErr result (out.new.items ≡ out.old.items) }
 {
-    let Some((last, front)) = parts.split_last() else {
-        return Ok(());
-    };
-    let Some(size) = kept_front_size(front) else {
-        return Err(NoMemory);
-    };
-    let Some(size) = size.checked_add(keep_size(&last.packet()) as usize) else {
-        return Err(NoMemory);
-    };
-    out.reserve(size)?;
-    write_kept_front(front, out);
-    write_keep(&last.packet(), out)
-}
-
-// Appends the kept self-delimited forms of these, for which there is room.
-fn write_kept_front(front: &[Part], out: &mut Vec<u8>)
-    requires room { vec_len out.old
-        + length (flat_map (λ p. kept_self_of p.held) front.now) ≤ vec_capacity out.old }
-    ensures items { out.new.items ≡ out.old.items ++ flat_map (λ p. kept_self_of p.held) front.now }
-    ensures capacity { vec_capacity out.old ≤ vec_capacity out.new }
-{
-    for part in front {
-        write_keep_self(&part.packet(), out).unwrap();
-    }
+    write_forms(parts, Form::KeptSelf, Form::Kept, out)
 }
 
 /// Appends the canonical multistream form of what these own.
@@ -101,51 +75,53 @@ pub(crate) fn write_canonical<T: Owns>(parts: &[T], out: &mut Vec<u8>) -> Result
         ≡ out.old.items ++ canonical_multistream (map (λ p. (T.held p).value) parts.now)) }
     ensures err { OnErr result (out.new.items ≡ out.old.items) }
 {
+    write_forms(parts, Form::CanonicalSelf, Form::Canonical, out)
+}
+
+// Appends one form of all but the last of what these own, and another of the last.
+fn write_forms<T: Owns>(
+    parts: &[T],
+    self_form: Form,
+    whole_form: Form,
+    out: &mut Vec<u8>,
+) -> Result<(), NoMemory>
+    ensures ok { OnOk result (out.new.items ≡ out.old.items
+        ++ forms (spelled_as self_form) (spelled_as whole_form) (map (λ p. T.held p) parts.now)) }
+    ensures err { OnErr result (out.new.items ≡ out.old.items) }
+{
     let Some((last, front)) = parts.split_last() else {
         return Ok(());
     };
-    let Some(size) = front_size(front) else {
+    let Some(size) = front_size(front, self_form) else {
         return Err(NoMemory);
     };
-    let Some(size) = size.checked_add(canon_size(&last.packet()) as usize) else {
+    let Some(size) = size.checked_add(whole_form.size(&last.packet()) as usize) else {
         return Err(NoMemory);
     };
     out.reserve(size)?;
-    write_front(front, out);
-    write_canon(&last.packet(), out)
+    write_front(front, self_form, out);
+    whole_form.write(&last.packet(), out)
 }
 
-// Appends the canonical self-delimited forms of these, for which there is room.
-fn write_front<T: Owns>(front: &[T], out: &mut Vec<u8>)
+// Bytes of this form of each.
+fn front_size<T: Owns>(front: &[T], form: Form) -> Option<usize>
+    ensures { IfSome result (λ size. size ≡ length (flat_map (λ p. spelled_as form (T.held p)) front.now)) }
+{
+    let mut size: usize = 0;
+    for part in front {
+        size = size.checked_add(form.size(&part.packet()) as usize)?;
+    }
+    Some(size)
+}
+
+// Appends this form of each, for which there is room.
+fn write_front<T: Owns>(front: &[T], form: Form, out: &mut Vec<u8>)
     requires room { vec_len out.old
-        + length (flat_map (λ p. canonical_self_delimited (T.held p).value) front.now) ≤ vec_capacity out.old }
-    ensures items { out.new.items
-        ≡ out.old.items ++ flat_map (λ p. canonical_self_delimited (T.held p).value) front.now }
+        + length (flat_map (λ p. spelled_as form (T.held p)) front.now) ≤ vec_capacity out.old }
+    ensures items { out.new.items ≡ out.old.items ++ flat_map (λ p. spelled_as form (T.held p)) front.now }
     ensures capacity { vec_capacity out.old ≤ vec_capacity out.new }
 {
     for part in front {
-        write_canon_self(&part.packet(), out).unwrap();
+        form.write(&part.packet(), out).unwrap();
     }
-}
-
-// Bytes of the canonical self-delimited forms of these.
-fn front_size<T: Owns>(front: &[T]) -> Option<usize>
-    ensures { IfSome result (λ size. size ≡ length (flat_map (λ p. canonical_self_delimited (T.held p).value) front.now)) }
-{
-    let mut size: usize = 0;
-    for part in front {
-        size = size.checked_add(canon_self_size(&part.packet()) as usize)?;
-    }
-    Some(size)
-}
-
-// Bytes of the kept self-delimited forms of these.
-fn kept_front_size(front: &[Part]) -> Option<usize>
-    ensures { IfSome result (λ size. size ≡ length (flat_map (λ p. kept_self_of p.held) front.now)) }
-{
-    let mut size: usize = 0;
-    for part in front {
-        size = size.checked_add(keep_self_size(&part.packet()) as usize)?;
-    }
-    Some(size)
 }

@@ -13,7 +13,7 @@ use opus_io::NoMemory;
 use opus_packet::Fault;
 use std::alloc::Global;
 
-/// Reads one multistream packet from pieces of any size. The memory for one stream's packet and the list of parts are
+/// Reads one multistream packet from pieces of any size. The memory for one stream's packet and for the list of parts is
 /// taken by `new`; each packet that ends is copied to memory of its own.
 #[derive(Drop)]
 pub struct MultiFeed {
@@ -42,7 +42,7 @@ impl MultiFeed {
     ghost use Rattle.opus_multi.specs.declared.multi_place.MultiPlace.TheVariants.{Reading, Done, Failed};
 
     /// A feed that took no bytes, of packets of so many streams. With `Drop` it takes 61,200 bytes of memory for one
-    /// stream's packet, with `Keep` 126,735.
+    /// stream's packet, with `Keep` 126,735, and room for as many parts as there are streams.
     pub fn new(alloc: Global, streams: u8, padding: Padding) -> Result<MultiFeed, NoMemory>
         requires { 1 ≤ streams }
         ensures stands { IfOk result (λ m. MultiStands m []) }

@@ -1,6 +1,6 @@
 //! Multistream packets in pieces, with their answers.
 use crate::tests::{BROKEN, GOOD, UNEQUAL, broken};
-use crate::{MultiFault, MultiFeed, Part, decode_multi};
+use crate::{MultiFault, MultiFeed, Part, decode_multi, write_multi};
 use opus_feed::Padding;
 use opus_packet::{Rule, Tail};
 use std::alloc::Global;
@@ -285,5 +285,31 @@ fn unequal_durations_come_at_the_end(rt: HostRuntime) -> Result<(), Fail> {
     feed.reset();
     assert_eq!(rt; feed.feed(&[0xF8, 0, 0xF0, 0, 0xF8, 0, 0xF9, 0xAA]), Ok(()));
     assert_eq!(rt; feed.finish(), Err(broken(3, Rule::R3, 2)));
+    Ok(())
+}
+
+// Rows: bytes of two streams, and their canonical form.
+#[test]
+fn what_came_in_pieces_is_written(rt: HostRuntime) -> Result<(), Fail> {
+    let table: [(&[u8], &[u8]); 2] = [
+        (
+            &[0xFB, 0x41, 1, 1, 0xAA, 0, 0xFB, 1, 0xBB],
+            &[0xF8, 1, 0xAA, 0xF8, 0xBB],
+        ),
+        (&[0xF8, 1, 0xAA, 0xF8], &[0xF8, 1, 0xAA, 0xF8]),
+    ];
+    let mut feed = MultiFeed::new(rt.alloc(), 2, Padding::Drop)?;
+    for (bytes, want) in table {
+        feed.reset();
+        for byte in bytes {
+            assert_eq!(rt; feed.feed(&[*byte]), Ok(()));
+        }
+        let mut out = Vec::new(rt.alloc());
+        match feed.finish() {
+            Ok(()) => write_multi(feed.parts(), &mut out)?,
+            Err(_) => (),
+        }
+        assert_eq!(rt; out.as_slice(), want);
+    }
     Ok(())
 }

@@ -1,6 +1,6 @@
 use Rattle.std.proofs.Common.{length, Err, refl, sym, subst, arith}
 use Rattle.opus_multi.specs.MultiTurns.{TurnReads}
-use Rattle.opus_multi.proofs.ReadsLemmas.{reads_on, reads_next, refused, more_streams}
+use Rattle.opus_multi.proofs.TurnLemmas.{reads_on, reads_next, refused, more_streams}
 use Rattle.opus_multi.proofs.multi_feed.MultiFeed.turn.Goals as goal
 
 pub returns-in-More-clause-reads : goal.returns-in-More-clause-reads
