@@ -1,9 +1,8 @@
 -- Examples of captures, computed by the definitions.
-use Rattle.std.proofs.Common.{◌≡◌, inl, inr, ℕ, List, [], ◌∷◌, ◌++◌, length, replicate, refl, arith}
-use Rattle.rec_store.specs.Dump.{DumpRecord}
-use Rattle.rec_store.specs.DumpLine.{IsDumpLine, IsBadLine, IsLongLine, IsOneLine}
+use Rattle.std.proofs.Common.{◌≡◌, inl, ℕ, List, [], ◌∷◌, ◌++◌, refl, arith}
+use Rattle.rec_store.specs.DumpLine.{IsDumpLine, IsBadLine}
 use Rattle.rec_store.specs.DumpItem.{kind_of, packet_size}
-use Rattle.rec_store.specs.DumpStore.{IsDumpHead, IsDumpOpening, IsDumpFront, HasShortLength, IsBadLength}
+use Rattle.rec_store.specs.DumpStore.{IsDumpHead, IsDumpOpening, IsBadLength}
 use Rattle.rec_store.specs.declared.dump_item.DumpKind.TheVariants.{Rtp, Cut, Rtcp}
 use Rattle.rec_store.specs.declared.dump_opening.DumpHead.{DumpHead}
 

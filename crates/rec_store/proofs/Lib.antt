@@ -3,11 +3,13 @@ pub mod CaptureFacts
 pub mod DemoLemmas
 pub mod DumpLemmas
 pub mod FaultLemmas
-pub mod HeadLemmas
 pub mod ItemLemmas
 pub mod LineLemmas
 pub mod LineSteps
+pub mod OpeningReads
 pub mod PartLemmas
 pub mod RecordLemmas
+pub mod RecordReads
 pub mod StoreLemmas
+pub mod TakeLemmas
 pub mod StandardFacts

@@ -1,7 +1,7 @@
 -- The first line of a capture: one line at most stands at a front, and bytes that go wrong become none.
-use Rattle.std.proofs.Common.{◌≡◌, ◌≢◌, ◌⊎◌, inl, inr, ℕ, zero, suc, ◌+◌, ◌≤◌, ◌<◌, List, [], ◌∷◌, ◌++◌, length, length-append, refl, sym, ap, ◌∙◌, append_assoc, append-nil, arith}
+use Rattle.std.proofs.Common.{◌≡◌, ◌≢◌, inl, inr, ℕ, ◌≤◌, List, [], ◌∷◌, ◌++◌, length, length-append, refl, sym, ap, ◌∙◌, append_assoc, append-nil, arith}
 use Rattle.rec_store.specs.Dump.{dump_mark}
-use Rattle.rec_store.specs.DumpLine.{IsOneLine, IsDumpLine, IsOtherMark, IsLongLine, IsBadLine, IsMarkPart, IsTextPart, IsLinePart}
+use Rattle.rec_store.specs.DumpLine.{IsOneLine, IsDumpLine, IsOtherMark, IsLongLine, IsBadLine, IsLinePart}
 use Rattle.rec_store.proofs.DemoLemmas.{fronts_same}
 
 pub IsOneLine-append : (xs ys : List ℕ) → IsOneLine xs → IsOneLine ys → IsOneLine (xs ++ ys)

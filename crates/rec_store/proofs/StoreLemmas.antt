@@ -1,15 +1,15 @@
 -- Captures: one reading at most, and how fronts of them go on.
-use Rattle.std.proofs.Common.{◌≡◌, ℕ, ◌+◌, ◌≤◌, ◌<◌, List, [], ◌∷◌, ◌++◌, length, length-append, refl, sym, ap, ◌∙◌, append_assoc, append-nil, subst, arith}
+use Rattle.std.proofs.Common.{◌≡◌, ℕ, ◌≤◌, List, [], ◌∷◌, ◌++◌, length, length-append, refl, sym, ap, ◌∙◌, append_assoc, append-nil, subst, arith}
 use Rattle.std.specs.List.{AllByRecursion, flat_map}
 use Rattle.std.specs.Int.{w16, w32, to_be_bytes}
 use Rattle.rec_store.specs.Dump.{DumpRecord, IsDumpRecord, dump_record_bytes}
-use Rattle.rec_store.specs.DumpLine.{IsBadLine, IsLinePart}
-use Rattle.rec_store.specs.DumpStore.{IsDumpHead, IsDumpOpening, IsDumpFront, IsDump, IsStoreCut, IsOpeningPart, IsRecordPart, IsRecordCut}
+use Rattle.rec_store.specs.DumpLine.{IsBadLine}
+use Rattle.rec_store.specs.DumpStore.{IsDumpHead, IsDumpOpening, IsDumpFront, IsDump, IsStoreCut, IsOpeningPart, IsRecordCut}
 use Rattle.rec_store.specs.declared.dump_opening.DumpHead.{DumpHead}
 use Rattle.rec_store.proofs.DemoLemmas.{fronts_same, number_same}
 use Rattle.rec_store.proofs.DumpLemmas.{short_same}
-use Rattle.rec_store.proofs.LineLemmas.{line-front, bad_line-none, line_part-more}
-use Rattle.rec_store.proofs.RecordLemmas.{IsNoRecord, no_record-nil, short-none, short-size, part-no_record, length-dump_record, records-joined, records-more, records_begin, Goes}
+use Rattle.rec_store.proofs.LineLemmas.{line-front, bad_line-none}
+use Rattle.rec_store.proofs.RecordLemmas.{IsNoRecord, no_record-nil, part-no_record, length-dump_record, records-joined, records-more, records_begin, Goes}
 
 -- ---- openings
 

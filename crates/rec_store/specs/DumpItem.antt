@@ -1,5 +1,5 @@
 -- What is told of a record of a capture.
-use Rattle.std.specs.Prelude.{◌≡◌, ℕ, ◌^◌, ◌≤◌, ◌<◌, ◌==◌, nat_lt, if◌then◌else◌, List, ◌++◌, length, take, min}
+use Rattle.std.specs.Prelude.{◌≡◌, ℕ, ◌^◌, ◌≤◌, ◌<◌, ◌==◌, nat_lt, if◌then◌else◌, List, length, take, min}
 use Rattle.std.specs.Int.{w16, to_be_bytes}
 use Rattle.rec_store.specs.Dump.{DumpRecord, IsDumpRecord, dump_record_bytes}
 use Rattle.rec_store.specs.declared.dump_item.DumpItem.{DumpItem}

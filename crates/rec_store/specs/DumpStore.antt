@@ -1,9 +1,9 @@
 -- A capture in the rtpdump layout: its first line, its head, its records, and how it is cut or goes wrong.
-use Rattle.std.specs.Prelude.{◌≡◌, ◌⊎◌, ℕ, ◌+◌, ◌^◌, ◌≤◌, ◌<◌, List, [], ◌++◌, length}
+use Rattle.std.specs.Prelude.{◌≡◌, ℕ, ◌+◌, ◌^◌, ◌≤◌, ◌<◌, List, [], ◌++◌, length}
 use Rattle.std.specs.List.{AllByRecursion, flat_map}
 use Rattle.std.specs.Int.{w16, w32, to_be_bytes}
 use Rattle.rec_store.specs.Dump.{DumpRecord, IsDumpRecord, dump_record_bytes}
-use Rattle.rec_store.specs.DumpLine.{IsDumpLine, IsBadLine}
+use Rattle.rec_store.specs.DumpLine.{IsDumpLine}
 use Rattle.rec_store.specs.declared.dump_opening.DumpHead.{DumpHead}
 
 -- a list of bytes

@@ -4,4 +4,6 @@ pub mod Dump
 pub mod DumpLine
 pub mod DumpStore
 pub mod DumpItem
-pub mod HeadBytes
+pub mod DumpReader
+pub mod Taking
+pub mod DumpTaking

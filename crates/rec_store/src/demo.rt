@@ -3,12 +3,11 @@ ghost use Rattle.std.specs.Prelude.{◌≡◌, ◌≢◌, ◌↔◌, ◌+◌, �
 ghost use Rattle.std.specs.Io.BufRead.{Rests};
 ghost use Rattle.std.specs.Borrow.{sem};
 ghost use Rattle.opus_io.specs.contracts.reader.Reader.{the_row};
-ghost use Rattle.opus_io.specs.Reader.{LookCause};
 ghost use Rattle.rec_store.specs.DemoStore.{demo_head};
 ghost use Rattle.rec_store.specs.DemoReader.{DemoState, DemoNext, StoreCause, left_after, PieceLooked};
-ghost use Rattle.rec_store.specs.HeadBytes.{TakesHead};
 
 use crate::numbers::read_number;
+use crate::take::take_head;
 use crate::{StoreFault, StoreStop};
 use arrayvec::ArrayVec;
 use opus_io::{InStop, Reader, Source};
@@ -155,7 +154,7 @@ fn read_head<S: Source>(input: &mut Reader, source: &mut S) -> Result<Option<Dem
     ensures cause { StoreCause (S.faults source.old) (S.faults source.new) result }
 {
     let mut head = ArrayVec::new();
-    if let Err(stop) = take_head(input, source, &mut head) {
+    if let Err(stop) = take_head(input, source, &mut head, 8) {
         return Err(match stop {
             InStop::Read => StoreStop::Read,
             InStop::Limit => StoreStop::Limit,
@@ -166,32 +165,4 @@ fn read_head<S: Source>(input: &mut Reader, source: &mut S) -> Result<Option<Dem
         8 => Ok(Some(DemoHead::read(head.as_slice()))),
         _ => Err(StoreStop::Fault(StoreFault::StoreCut(input.passed()))),
     }
-}
-
-// Takes the bytes that come next, eight or as many as there are.
-fn take_head<S: Source>(
-    input: &mut Reader,
-    source: &mut S,
-    head: &mut ArrayVec<u8, 8>,
-) -> Result<(), InStop>
-    requires { head.old.items ≡ [] }
-    ensures answer { TakesHead input.old input.new (S.left source.old) (S.left source.new)
-        head.new.items result }
-    ensures untouched { 8 ≤ length input.old.bytes → 8 ≤ input.old.limit - input.old.passed
-        → source.new ≡ source.old }
-    ensures cause { LookCause (S.faults source.old) (S.faults source.new) result }
-{
-    'bytes: while head.len() < 8 {
-        let shown = match input.ahead(source) {
-            Ok(shown) => shown,
-            Err(stop) => return Err(stop),
-        };
-        if shown.is_empty() {
-            return Ok(());
-        }
-        let count = shown.len().min(8 - head.len());
-        head.try_extend_from_slice(&shown[..count]).unwrap();
-        input.pass(count);
-    }
-    Ok(())
 }

@@ -9,10 +9,12 @@ mod dump;
 mod dump_item;
 mod dump_line;
 mod dump_opening;
+mod dump_reader;
 pub mod laws;
 mod numbers;
 mod record;
 mod stop;
+mod take;
 #[cfg(test)]
 mod tests;
 
@@ -23,5 +25,6 @@ pub use dump_item::{
 };
 pub use dump_line::{LineStep, line_step};
 pub use dump_opening::{DUMP_HEAD_LEN, DumpHead};
+pub use dump_reader::DumpReader;
 pub use record::{demo_head, demo_record};
 pub use stop::{StoreFault, StoreStop};

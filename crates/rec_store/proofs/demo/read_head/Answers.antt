@@ -1,5 +1,5 @@
 use Rattle.std.proofs.Common.{arith}
-use Rattle.rec_store.proofs.HeadLemmas.{HeadCut-front}
+use Rattle.rec_store.proofs.TakeLemmas.{HeadCut-front}
 use Rattle.rec_store.proofs.demo.read_head.Goals as goal
 
 pub returns-in_default-len-clause-answer : goal.returns-in_default-len-clause-answer

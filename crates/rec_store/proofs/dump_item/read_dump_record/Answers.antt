@@ -1,4 +1,4 @@
-use Rattle.std.proofs.Common.{◌<◌, ◌^◌, rules}
+use Rattle.std.proofs.Common.{rules}
 use Rattle.rec_store.proofs.ItemLemmas.{tells_record}
 use Rattle.rec_store.proofs.dump_item.read_dump_record.Goals as goal
 

@@ -1,4 +1,4 @@
-use Rattle.std.proofs.Common.{◌≡◌, ◌≤◌, ◌<◌, length, length-take, take, get_or, sym, ap, ◌∙◌, arith}
+use Rattle.std.proofs.Common.{◌≡◌, ◌<◌, length-take, sym, ◌∙◌, arith}
 use Rattle.std.proofs.lemmas.List.{get_or-take}
 use Rattle.rec_store.proofs.LineSteps.{mark_next, mark_taken, mark_ends}
 use Rattle.rec_store.proofs.dump_line.in_mark.Goals as goal

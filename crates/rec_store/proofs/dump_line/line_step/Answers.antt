@@ -1,4 +1,4 @@
-use Rattle.std.proofs.Common.{◌≡◌, ◌≤◌, length, arith}
+use Rattle.std.proofs.Common.{arith}
 use Rattle.rec_store.proofs.LineSteps.{mark_no_part}
 use Rattle.rec_store.proofs.dump_line.line_step.Goals as goal
 
