@@ -1,0 +1,10 @@
+pub mod Text
+pub mod Number
+pub mod Table
+pub mod Params
+pub mod Grammar
+pub mod Parts
+pub mod Fault
+pub mod Reading
+pub mod Printed
+pub mod SdpLine
