@@ -1,7 +1,7 @@
 -- The known parameters of an `a=fmtp:` line (RFC 7587, 6.1), in the order in which they are printed. The ranges are
 -- this project's.
 use Rattle.std.specs.Prelude.{ℕ, ◌+◌, ◌*◌, Bool, true, ◌==◌, List, [], ◌∷◌, map, codes, is_some, slice_get}
-use Rattle.std.specs.List.{list_any, position_or_len}
+use Rattle.std.specs.List.{list_any, position_or_len, slice_index_or}
 use Rattle.std.specs.Option.{option_map_or}
 use Rattle.std.specs.Char.{to_ascii_lowercase}
 use Rattle.std.specs.Str.{bytes_eq}
@@ -48,3 +48,6 @@ is_allowed name value =
 -- whether one of the parameters has this name
 abbrev pub is_named : List ℕ → List Param → Bool
 is_named name params = list_any (λ p. same_name p.name name) params
+
+abbrev pub row_at : ℕ → Row
+row_at i = slice_index_or table i (row [] 0 0)

@@ -3,7 +3,10 @@
 
 mod fault;
 mod fmtp;
+mod number;
 mod param;
+mod table;
+mod text;
 
 pub use fault::SdpFault;
 pub use fmtp::{Fmtp, Rtpmap};
