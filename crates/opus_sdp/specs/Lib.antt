@@ -8,3 +8,5 @@ pub mod Fault
 pub mod Reading
 pub mod Printed
 pub mod SdpLine
+pub mod Names
+pub mod Written

@@ -3,10 +3,12 @@
 
 mod fault;
 mod fmtp;
+mod names;
 mod number;
 mod param;
 mod table;
 mod text;
+mod written;
 
 pub use fault::SdpFault;
 pub use fmtp::{Fmtp, Rtpmap};

@@ -1,5 +1,5 @@
-use Rattle.std.proofs.Common.{◌≡◌, false, below_more, sym, ap, ◌∙◌, refl, arith}
-use Rattle.opus_sdp.specs.Table.{same_name, row_at}
+use Rattle.std.proofs.Common.{below_more, sym, ap, ◌∙◌, arith}
+use Rattle.opus_sdp.specs.Table.{same_name}
 use Rattle.opus_sdp.proofs.TableLemmas.{row_of_is, same_name_tested}
 use Rattle.opus_sdp.proofs.table.row_of.Goals as goal
 
