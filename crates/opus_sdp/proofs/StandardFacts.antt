@@ -1,12 +1,12 @@
 -- Lines, computed by the definitions.
-use Rattle.std.proofs.Common.{◌≡◌, ℕ, Bool, true, false, List, [], ◌∷◌, ◌++◌, Option, None, Some, refl}
+use Rattle.std.proofs.Common.{◌≡◌, Some, refl}
 use Rattle.std.specs.Prelude.{codes}
 use Rattle.std.specs.Fmt.{digits}
-use Rattle.opus_sdp.specs.Table.{table, row_of, is_allowed}
-use Rattle.opus_sdp.specs.Fault.{fmtp_fault, rtpmap_fault}
-use Rattle.opus_sdp.specs.Reading.{fmtp_in, rtpmap_in}
-use Rattle.opus_sdp.specs.Printed.{fmtp_text, rtpmap_text}
-use Rattle.opus_sdp.specs.declared.fault.SdpFault.TheVariants.{Prefix, PayloadType, Codec, Name, Repeat, Value}
+use Rattle.opus_sdp.specs.Table.{table}
+use Rattle.opus_sdp.specs.Fault.{fmtp_fault}
+use Rattle.opus_sdp.specs.Reading.{fmtp_in}
+use Rattle.opus_sdp.specs.Printed.{fmtp_text}
+use Rattle.opus_sdp.specs.declared.fault.SdpFault.TheVariants.{Value}
 
 printed : fmtp_text (fmtp_in (codes "a=fmtp:111 useinbandfec=1; maxplaybackrate=16000;minptime=10"))
     ≡ codes "a=fmtp:111 maxplaybackrate=16000;useinbandfec=1;minptime=10"

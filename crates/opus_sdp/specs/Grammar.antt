@@ -1,9 +1,9 @@
 -- The lines (RFC 7587, 6.1 and 7). Blanks and ranges are this project's.
-use Rattle.std.specs.Prelude.{◌≡◌, ◌<◌, ◌≤◌, ℕ, ◌==◌, Bool, true, false, not, ◌&&◌, ◌||◌, nat_le, nat_lt, List, [], ◌∷◌, ◌++◌, length, codes, Option, None, Some}
+use Rattle.std.specs.Prelude.{◌≡◌, ◌<◌, ◌≤◌, ℕ, ◌==◌, Bool, true, false, not, ◌&&◌, ◌||◌, nat_lt, List, [], ◌∷◌, ◌++◌, length, codes, Option, None, Some}
 use Rattle.std.specs.List.{list_all, filter_map, join_with_byte}
 use Rattle.std.specs.Fmt.{decimal}
 use Rattle.std.specs.Char.{is_ascii_alphanumeric}
-use Rattle.opus_sdp.specs.Text.{is_blank, is_semicolon, trim}
+use Rattle.opus_sdp.specs.Text.{is_blank, trim}
 use Rattle.opus_sdp.specs.Table.{same_name, is_named, is_allowed}
 use Rattle.opus_sdp.specs.Params.{fmtp_of}
 use Rattle.opus_sdp.specs.declared.fmtp.Rtpmap.{Rtpmap}

@@ -10,3 +10,4 @@ pub mod Printed
 pub mod SdpLine
 pub mod Names
 pub mod Written
+pub mod Found

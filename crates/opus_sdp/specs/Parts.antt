@@ -1,5 +1,5 @@
 -- The parameters of a line as they stand in it, each with its place.
-use Rattle.std.specs.Prelude.{ℕ, ◌+◌, ◌-◌, nat_lt, List, [], ◌∷◌, length, map, filter}
+use Rattle.std.specs.Prelude.{ℕ, ◌+◌, nat_lt, List, [], ◌∷◌, length, map, filter}
 use Rattle.std.specs.List.{prefix_len, position_or_len, before_first, after_first, slice_split}
 use Rattle.opus_sdp.specs.Text.{is_blank, is_semicolon, is_equals, trim, trim_end}
 use Rattle.opus_sdp.specs.declared.param.Param.{Param}

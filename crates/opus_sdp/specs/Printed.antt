@@ -1,5 +1,5 @@
 -- The printed lines, without a newline at the end. The order of the parameters is this project's.
-use Rattle.std.specs.Prelude.{◌≡◌, ◌≤◌, ℕ, Bool, true, false, ◌==◌, if◌then◌else◌, List, [], ◌∷◌, ◌++◌, codes, Option, None, Some, option_map, IfSome}
+use Rattle.std.specs.Prelude.{◌≡◌, ◌≤◌, ℕ, Bool, true, false, if◌then◌else◌, List, [], ◌∷◌, ◌++◌, codes, Option, option_map, IfSome}
 use Rattle.std.specs.List.{filter_map, flat_map, zip}
 use Rattle.std.specs.Fmt.{decimal}
 use Rattle.opus_sdp.specs.Table.{Row, table, row_of, is_named}

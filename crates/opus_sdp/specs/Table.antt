@@ -1,6 +1,6 @@
 -- The known parameters of an `a=fmtp:` line (RFC 7587, 6.1), in the order in which they are printed. The ranges are
 -- this project's.
-use Rattle.std.specs.Prelude.{ℕ, ◌+◌, ◌*◌, Bool, true, ◌==◌, List, [], ◌∷◌, map, codes, is_some, slice_get}
+use Rattle.std.specs.Prelude.{ℕ, Bool, true, List, [], ◌∷◌, map, codes, is_some, slice_get}
 use Rattle.std.specs.List.{list_any, position_or_len, slice_index_or}
 use Rattle.std.specs.Option.{option_map_or}
 use Rattle.std.specs.Char.{to_ascii_lowercase}

@@ -3,6 +3,7 @@
 
 mod fault;
 mod fmtp;
+mod found;
 mod names;
 mod number;
 mod param;

@@ -10,6 +10,8 @@ use crate::text::{blanks, trim_end, until};
 /// A parameter as it is written, without blanks.
 #[derive(Clone, Copy)]
 pub(crate) struct Written<'a> {
+    /// Where the parameter begins.
+    pub(crate) at: usize,
     pub(crate) name: &'a [u8],
     pub(crate) value: &'a [u8],
     /// Where the value begins.
@@ -36,6 +38,7 @@ impl<'a> Written<'a> {
         let rest = &text[equals + 1..];
         let skipped = blanks(rest);
         Some(Written {
+            at,
             name,
             value: trim_end(&rest[skipped..]),
             value_at: at + equals + 1 + skipped,

@@ -1,9 +1,9 @@
-use Rattle.std.proofs.Common.{◌≡◌, ℕ, List, not, ◌||◌, ap, sym, ◌∙◌}
+use Rattle.std.proofs.Common.{◌≡◌, not, ◌||◌, ap, ◌∙◌}
 use Rattle.std.specs.List.{list_any}
 use Rattle.std.specs.Str.{bytes_eq}
 use Rattle.std.specs.Ordering.{is_eq, nat_cmp}
 use Rattle.std.specs.Cmp.Lexicographic.{slice_cmp}
-use Rattle.opus_sdp.specs.Table.{lowered, same_name}
+use Rattle.opus_sdp.specs.Table.{lowered}
 use Rattle.opus_sdp.specs.Names.{has_met}
 use Rattle.opus_sdp.proofs.NamesLemmas.{IfOk-map_err, OnOk-map_err, list_any_same, list_any-insert_key, found_text, tied_texts}
 use Rattle.opus_sdp.proofs.names.Names.add.Goals as goal
