@@ -26,6 +26,13 @@ word_end front line = front + length (word_in front line)
 abbrev pub rest_in : ℕ → List ℕ → List ℕ
 rest_in front line = drop (word_end front line) line
 
+-- the line begins as this, and with a payload type behind it
+abbrev pub front_fault : List ℕ → List ℕ → Option SdpFault
+front_fault front line =
+    if not (begins_with front line) then Some Prefix
+    else if not (is_payload_type (word_in (length front) line)) then Some (PayloadType (length front))
+    else None
+
 -- the parameter has an `=`, and a name in front of it
 abbrev pub has_name : List ℕ → Bool
 has_name text = nat_lt (position_or_len is_equals text) (length text) && is_name (name_of text)
@@ -48,14 +55,11 @@ abbrev pub parts_in : List ℕ → List Part
 parts_in line = parts_of (word_end 7 line) (rest_in 7 line)
 
 unfoldable pub fmtp_fault : List ℕ → Option SdpFault
-fmtp_fault line =
-    if not (begins_with (codes "a=fmtp:") line) then Some Prefix
-    else if not (is_payload_type (word_in 7 line)) then Some (PayloadType 7)
-    else first_fault [] (parts_in line)
+fmtp_fault line = option_or (front_fault (codes "a=fmtp:") line) (first_fault [] (parts_in line))
+
+abbrev pub codec_fault : List ℕ → Option SdpFault
+codec_fault line =
+    if same_name (trim (rest_in 9 line)) (codes "opus/48000/2") then None else Some (Codec (word_end 9 line))
 
 unfoldable pub rtpmap_fault : List ℕ → Option SdpFault
-rtpmap_fault line =
-    if not (begins_with (codes "a=rtpmap:") line) then Some Prefix
-    else if not (is_payload_type (word_in 9 line)) then Some (PayloadType 9)
-    else if not (same_name (trim (rest_in 9 line)) (codes "opus/48000/2")) then Some (Codec (word_end 9 line))
-    else None
+rtpmap_fault line = option_or (front_fault (codes "a=rtpmap:") line) (codec_fault line)

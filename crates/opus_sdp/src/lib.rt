@@ -7,6 +7,7 @@ mod found;
 mod names;
 mod number;
 mod param;
+mod read;
 mod table;
 mod text;
 mod written;
