@@ -4,4 +4,6 @@ pub mod ParamsLemmas
 pub mod FaultLemmas
 pub mod PartsLemmas
 pub mod ReadLemmas
+pub mod TrimLemmas
+pub mod NumberLemmas
 pub mod StandardFacts
