@@ -4,6 +4,8 @@ pub mod ParamsLemmas
 pub mod FaultLemmas
 pub mod PartsLemmas
 pub mod ReadLemmas
+pub mod TextLemmas
 pub mod TrimLemmas
 pub mod NumberLemmas
+pub mod SpelledLemmas
 pub mod StandardFacts

@@ -1,13 +1,14 @@
 -- Texts without the blanks at their ends.
-use Rattle.std.proofs.Common.{◌≡◌, ◌≢◌, ◌<◌, ◌≤◌, ◌⊎◌, ⊎_elim, inl, inr, ℕ, suc, ◌+◌, ◌-◌, Bool, true, false, not, ◌==◌, ◌&&◌, cond, List, [], ◌∷◌, ◌++◌, length, take, drop, reverse, append-nil, append_assoc, refl, sym, ap, subst, ◌∙◌, length-take, arith}
-use Rattle.std.specs.List.{list_all, prefix_len, suffix_len}
-use Rattle.std.proofs.lemmas.Bool.{cases_Bool, and_parts, and_from, eq-eqb, ne_eqb, cond-true, cond-false}
+use Rattle.std.proofs.Common.{◌≡◌, ◌≢◌, ◌⊎◌, ⊎_elim, inl, inr, ℕ, suc, ◌+◌, ◌-◌, Bool, true, false, ◌==◌, cond, List, [], ◌∷◌, ◌++◌, length, take, drop, reverse, refl, sym, ap, subst, ◌∙◌, length-take, arith}
+use Rattle.std.specs.List.{prefix_len, suffix_len}
+use Rattle.std.proofs.lemmas.Bool.{and_parts, and_from, eq-eqb, ne_eqb, cond-true, cond-false}
 use Rattle.std.proofs.Math.Seq.{drop-append-add}
 use Rattle.std.proofs.lemmas.List.{reverse-append, length-reverse}
-use Rattle.std.proofs.lemmas.List.Sums.{suffix_len-le-length, prefix_len-le-length}
-use Rattle.std.proofs.lemmas.List.Folds.{prefix_len-append, list_all-append}
+use Rattle.std.proofs.lemmas.List.Sums.{suffix_len-le-length}
+use Rattle.std.proofs.lemmas.List.Folds.{prefix_len-append}
 use Rattle.opus_sdp.specs.Text.{is_blank, trim_start, trim_end, trim}
 use Rattle.opus_sdp.specs.Grammar.{are_blank}
+use Rattle.opus_sdp.proofs.TextLemmas.{prefix_len-all}
 
 -- the blanks at the end, with one byte more in front
 
@@ -52,18 +53,9 @@ trim_end-blank (b ∷ text) blank =
     let (first, rest) = blank-first b text blank in
     trim_end-cons_none b text (trim_end-blank text rest) ∙ cond-true _ _ _ first
 
-pub prefix_len-blank : (text more : List ℕ) → are_blank text ≡ true
-    → prefix_len is_blank (text ++ more) ≡ length text + prefix_len is_blank more
-prefix_len-blank [] more blank = let e : 0 + prefix_len is_blank more ≡ prefix_len is_blank more = omega arith in sym e
-prefix_len-blank (b ∷ text) more blank =
-    let (first, rest) = blank-first b text blank in
-    let next = prefix_len-blank text more rest in
-    let sum : 1 + prefix_len is_blank (text ++ more) ≡ suc (length text) + prefix_len is_blank more = omega arith in
-    cond-true _ _ _ first ∙ sum
-
 pub trim_start-blank : (text more : List ℕ) → are_blank text ≡ true → trim_start (text ++ more) ≡ trim_start more
 trim_start-blank text more blank =
-    ap (λ n. drop n (text ++ more)) (prefix_len-blank text more blank) ∙ drop-append-add text more (prefix_len is_blank more)
+    ap (λ n. drop n (text ++ more)) (prefix_len-all is_blank text more blank) ∙ drop-append-add text more (prefix_len is_blank more)
 
 -- blanks at the end are dropped, and what stands in front of a text of which something is left stays
 
