@@ -8,4 +8,6 @@ pub mod TextLemmas
 pub mod TrimLemmas
 pub mod NumberLemmas
 pub mod SpelledLemmas
+pub mod PiecesLemmas
+pub mod LineLemmas
 pub mod StandardFacts

@@ -31,7 +31,7 @@ slice_split-whole (b ∷ text) whole = whole-at b text (is_semicolon b) refl who
 
 -- the first piece, and the rest
 
-abbrev kept : List Part → List Part
+abbrev pub kept : List Part → List Part
 kept parts = filter (λ p. nat_lt 0 (length p.text)) parts
 
 pub parts-cut : (at : ℕ) (text : List ℕ) → position_or_len is_semicolon text < length text
