@@ -10,4 +10,7 @@ pub mod NumberLemmas
 pub mod SpelledLemmas
 pub mod PiecesLemmas
 pub mod LineLemmas
+pub mod FoundLemmas
+pub mod LineFoundLemmas
+pub mod RtpmapLemmas
 pub mod StandardFacts

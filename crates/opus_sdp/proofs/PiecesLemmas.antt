@@ -1,13 +1,13 @@
 -- Pieces that are spelled are read.
-use Rattle.std.proofs.Common.{◌≡◌, ℕ, ◌+◌, Bool, true, false, not, ◌==◌, ◌&&◌, nat_lt, List, [], ◌∷◌, ◌++◌, length, map, Option, Some, None, refl, sym, ap, subst, ◌∙◌, append-nil, arith}
+use Rattle.std.proofs.Common.{◌≡◌, ℕ, ◌+◌, Bool, true, false, not, nat_lt, List, [], ◌∷◌, ◌++◌, length, map, Option, Some, None, refl, sym, ap, subst, ◌∙◌}
 use Rattle.std.specs.List.{list_all, filter_map, join_with_byte, slice_split}
 use Rattle.std.specs.Option.{option_or}
 use Rattle.std.proofs.lemmas.Bool.{and_parts, and_from, not-true}
-use Rattle.opus_sdp.specs.Text.{is_blank, is_semicolon, trim}
+use Rattle.opus_sdp.specs.Text.{is_blank, is_semicolon}
 use Rattle.opus_sdp.specs.Table.{is_named, is_allowed}
 use Rattle.opus_sdp.specs.Grammar.{are_blank, is_name_byte, is_value_byte, SpellsParam, AreSpelled, SpellsParams, AreAllowed}
-use Rattle.opus_sdp.specs.Parts.{Part, part_at, trimmed, placed, parts_of, name_of, value_at, param_of}
-use Rattle.opus_sdp.specs.Fault.{fault_after, first_fault}
+use Rattle.opus_sdp.specs.Parts.{Part, part_at, trimmed, placed, parts_of, value_at, param_of}
+use Rattle.opus_sdp.specs.Fault.{first_fault}
 use Rattle.opus_sdp.specs.declared.param.Param.{Param}
 use Rattle.opus_sdp.proofs.TextLemmas.{list_all_weaker, list_all-both, blank-no_semicolon, name-no_semicolon, value-no_semicolon}
 use Rattle.opus_sdp.proofs.FaultLemmas.{none-is}

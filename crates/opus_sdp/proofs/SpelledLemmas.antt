@@ -13,7 +13,7 @@ use Rattle.opus_sdp.proofs.FaultLemmas.{same_param}
 
 -- a name has no blank in it
 
-trim_end-full : (text : List ℕ) → list_all (λ b. not (is_blank b)) text ≡ true → trim_end text ≡ text
+pub trim_end-full : (text : List ℕ) → list_all (λ b. not (is_blank b)) text ≡ true → trim_end text ≡ text
 trim_end-full [] full = refl
 trim_end-full (b ∷ text) full =
     let (first, rest) = and_parts (not (is_blank b)) (list_all (λ x. not (is_blank x)) text) full in
