@@ -13,4 +13,5 @@ pub mod LineLemmas
 pub mod FoundLemmas
 pub mod LineFoundLemmas
 pub mod RtpmapLemmas
+pub mod AnswerLemmas
 pub mod StandardFacts

@@ -71,8 +71,7 @@ pub going-done : (at : ℕ) (text : List ℕ) (found now : Found) (from : ℕ) (
     → TakesAll (Ok tt) now going.before (piece_parts (at + from) (before_first is_semicolon (drop from text)))
     → (first_fault [] (parts_of at text) ≡ None) × Stands now (map param_of (parts_of at text))
 going-done at text found now from going whole takes =
-    let are = parts-last (at + from) (drop from text) whole in
-    (
+    let are = parts-last (at + from) (drop from text) whole in (
       going.fault ∙ ap (first_fault going.before) are ∙ takes.0,
       subst (Stands now) (sym (going.params ∙ ap (λ ps. going.before ++ map param_of ps) are)) takes.1,
     )

@@ -70,7 +70,7 @@ rtpmap-none r line is =
     ap (λ l. same_name l (codes "opus/48000/2")) codec ∙ is.opus in
     ap (λ f. option_or f (codec_fault line)) front.none ∙ ap (λ b. if b then None else Some (Codec (word_end 9 line))) same
 
-abbrev rtpmap_of : ℕ → Rtpmap
+abbrev pub rtpmap_of : ℕ → Rtpmap
 rtpmap_of n = record { payload_type = n }
 
 pub rtpmap-value : (r : Rtpmap) (line : List ℕ) → IsRtpmapLine r line → r ≡ rtpmap_in line

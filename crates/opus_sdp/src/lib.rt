@@ -15,3 +15,4 @@ mod written;
 pub use fault::SdpFault;
 pub use fmtp::{Fmtp, Rtpmap};
 pub use param::{Param, Params};
+pub use read::{read_fmtp, read_rtpmap};

@@ -1,7 +1,8 @@
 //! Reading the two lines.
 ghost use Rattle.std.specs.Prelude.{◌≡◌, ◌⊎◌, ◌+◌, ◌^◌, ◌<◌, ◌≤◌, true, None, Some, Ok, Err, [], map, length, codes, IfOk, IfErr};
-ghost use Rattle.opus_sdp.specs.Text.{is_line};
+ghost use Rattle.opus_sdp.specs.Text.{is_line, trim};
 ghost use Rattle.opus_sdp.specs.Number.{value_of};
+ghost use Rattle.opus_sdp.specs.Table.{same_name};
 ghost use Rattle.opus_sdp.specs.Params.{fmtp_of};
 ghost use Rattle.opus_sdp.specs.Parts.{parts_of, param_of};
 ghost use Rattle.opus_sdp.specs.Fault.{front_fault, word_in, word_end, first_fault, fmtp_fault, rtpmap_fault};
@@ -52,4 +53,40 @@ fn read_params(alloc: Global, at: usize, text: &[u8], payload_type: u8) -> Resul
         }
         from += size + 1;
     }
+}
+
+/// Reads a line that begins with `a=fmtp:`, without its newline (RFC 7587, 6.1).
+pub fn read_fmtp(alloc: Global, line: &[u8]) -> Result<Fmtp, SdpFault>
+    requires { is_line line.now ≡ true }
+    // What is read is spelled so, each byte of it; and what is spelled so is read.
+    ensures found { IfOk result (λ m. IsFmtpLine m line.now) }
+    ensures only { (m : Fmtp) → IsFmtpLine m line.now
+        → (result ≡ Ok m) ⊎ (result ≡ Err SdpFault.NoMemory) }
+    ensures fault { IfErr result (λ fault. (fault ≡ SdpFault.NoMemory)
+        ⊎ (fmtp_fault line.now ≡ Some fault)) }
+{
+    let (payload_type, end) = read_front(line, b"a=fmtp:")?;
+    read_params(alloc, end, &line[end..], payload_type)
+}
+
+/// Reads a line that begins with `a=rtpmap:`, without its newline (RFC 7587, 7).
+pub fn read_rtpmap(line: &[u8]) -> Result<Rtpmap, SdpFault>
+    // What is read is spelled so, each byte of it; and what is spelled so is read.
+    ensures found { IfOk result (λ r. IsRtpmapLine r line.now) }
+    ensures only { (r : Rtpmap) → IsRtpmapLine r line.now → result ≡ Ok r }
+    ensures fault { IfErr result (λ fault. rtpmap_fault line.now ≡ Some fault) }
+{
+    let (payload_type, end) = read_front(line, b"a=rtpmap:")?;
+    if !is_opus(&line[end..]) {
+        return Err(SdpFault::Codec(end as u64));
+    }
+    Ok(Rtpmap { payload_type })
+}
+
+// Whether the text is the codec of Opus, with blanks around it.
+fn is_opus(text: &[u8]) -> bool
+    ensures { result ≡ same_name (trim text.now) (codes "opus/48000/2") }
+{
+    let codec = trim_end(&text[blanks(text)..]);
+    codec.eq_ignore_ascii_case(b"opus/48000/2")
 }

@@ -29,8 +29,7 @@ returns c = λ before p stands written has at.
     let allowed : is_allowed (name_of p.text) (value_at p).text ≡ true =
     is_allowed-row (name_of p.text) (value_at p).text c.args.row c.requires at ∙ ap is_some (sym said) ∙ c.if-is_none.ensures in
     let new = is_named-known (name_of p.text) c.args.row c.requires at before in
-    let value = some_number (row_at c.args.row).least (row_at c.args.row).most (value_at p).text c.read_number-number.result said c.if-is_none.ensures in
-    (
+    let value = some_number (row_at c.args.row).least (row_at c.args.row).most (value_at p).text c.read_number-number.result said c.if-is_none.ensures in (
       none-is before p has (named ∙ c.if-is_some.false) allowed,
       took-known c.args.self.now before _ c.args.row c.read_number-number.result stands c.requires at (sym new ∙ named ∙ c.if-is_some.false) value,
     )

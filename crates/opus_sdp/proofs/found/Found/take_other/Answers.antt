@@ -23,9 +23,11 @@ returns c = λ before p stands written has at.
     let pushed : is_ok c.push.result ≡ true = sym c.map_err.ensures.variant ∙ ap is_ok c.in_ok-map_err.was in
     let param = same_param p c.in_ok-copy.field-0 c.in_ok-copy-2.field-0 (c.in_ok-copy.ensures ∙ written.name)
     (c.in_ok-copy-2.ensures ∙ ap (λ v. v.text) written.value) in
-    let items = rw pushed at c.push.ensures.items in
-    (none-is before p has named (is_allowed-other (name_of p.text) (value_at p).text at), took-other c.args.self.now _ before _ stands at record {
-      numbers = refl;
-      rest = items ∙ ap (λ q. c.args.self.now.others.items ++ q ∷ []) param;
-      names = λ name. c.in_ok-add.ensures.names name ∙ ap (λ n. has_met names name || same_name n name) written.name;
-    })
+    let items = rw pushed at c.push.ensures.items in (
+      none-is before p has named (is_allowed-other (name_of p.text) (value_at p).text at),
+      took-other c.args.self.now _ before _ stands at record {
+        numbers = refl;
+        rest = items ∙ ap (λ q. c.args.self.now.others.items ++ q ∷ []) param;
+        names = λ name. c.in_ok-add.ensures.names name ∙ ap (λ n. has_met names name || same_name n name) written.name;
+      },
+    )
