@@ -14,4 +14,5 @@ pub mod FoundLemmas
 pub mod LineFoundLemmas
 pub mod RtpmapLemmas
 pub mod AnswerLemmas
+pub mod WriteLemmas
 pub mod StandardFacts

@@ -11,3 +11,4 @@ pub mod SdpLine
 pub mod Names
 pub mod Written
 pub mod Found
+pub mod Writing

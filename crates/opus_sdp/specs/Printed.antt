@@ -1,6 +1,6 @@
 -- The printed lines, without a newline at the end. The order of the parameters is this project's.
 use Rattle.std.specs.Prelude.{◌≡◌, ◌≤◌, ℕ, Bool, true, false, if◌then◌else◌, List, [], ◌∷◌, ◌++◌, codes, Option, option_map, IfSome}
-use Rattle.std.specs.List.{filter_map, flat_map, zip}
+use Rattle.std.specs.List.{filter_map, zip}
 use Rattle.std.specs.Fmt.{decimal}
 use Rattle.opus_sdp.specs.Table.{Row, table, row_of, is_named}
 use Rattle.opus_sdp.specs.Grammar.{is_name, IsValue}
@@ -21,19 +21,23 @@ abbrev pub row_param : Row × Option ℕ → Option Param
 row_param p = option_map (λ n. record { name = p.0.name; value = decimal n }) p.1
 
 -- known ones in the order of the table, and then the others
+
+abbrev pub known_params : Fmtp → List Param
+known_params m = filter_map row_param (zip table (numbers_of m))
+
 abbrev pub printed_params : Fmtp → List Param
-printed_params m = filter_map row_param (zip table (numbers_of m)) ++ m.others
+printed_params m = known_params m ++ m.others
 
 abbrev pub param_text : Param → List ℕ
 param_text p = p.name ++ 61 ∷ p.value
 
--- a blank, and the parameters with a `;` between each two
-abbrev pub params_text : List Param → List ℕ
-params_text [] = []
-params_text (p ∷ params) = 32 ∷ (param_text p ++ flat_map (λ q. 59 ∷ param_text q) params)
+-- the parameters, each behind a byte: the first behind this one, and the others behind `;`
+abbrev pub params_after : ℕ → List Param → List ℕ
+params_after separator [] = []
+params_after separator (p ∷ params) = separator ∷ (param_text p ++ params_after 59 params)
 
 unfoldable pub fmtp_text : Fmtp → List ℕ
-fmtp_text m = codes "a=fmtp:" ++ (decimal m.payload_type ++ params_text (printed_params m))
+fmtp_text m = codes "a=fmtp:" ++ (decimal m.payload_type ++ params_after 32 (printed_params m))
 
 unfoldable pub rtpmap_text : Rtpmap → List ℕ
 rtpmap_text r = codes "a=rtpmap:" ++ (decimal r.payload_type ++ codes " opus/48000/2")

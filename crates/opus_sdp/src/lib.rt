@@ -10,9 +10,11 @@ mod param;
 mod read;
 mod table;
 mod text;
+mod write;
 mod written;
 
 pub use fault::SdpFault;
 pub use fmtp::{Fmtp, Rtpmap};
 pub use param::{Param, Params};
 pub use read::{read_fmtp, read_rtpmap};
+pub use write::{write_fmtp, write_rtpmap};
