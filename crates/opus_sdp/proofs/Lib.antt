@@ -15,4 +15,6 @@ pub mod LineFoundLemmas
 pub mod RtpmapLemmas
 pub mod AnswerLemmas
 pub mod WriteLemmas
+pub mod ValueLemmas
+pub mod RowsLemmas
 pub mod StandardFacts
