@@ -17,4 +17,6 @@ pub mod AnswerLemmas
 pub mod WriteLemmas
 pub mod ValueLemmas
 pub mod RowsLemmas
+pub mod PrintedLemmas
+pub mod PrintedLineLemmas
 pub mod StandardFacts

@@ -1,18 +1,16 @@
 -- Known parameters in the order of the table.
-use Rattle.std.proofs.Common.{◌≡◌, ◌≢◌, ◌<◌, ◌≤◌, ◌⊎◌, ◌^◌, ℕ, zero, suc, ◌+◌, Bool, true, false, not, ◌==◌, ◌&&◌, nat_le, cond, List, [], ◌∷◌, ◌++◌, length, get_or, find, filter, Option, None, Some, is_some, option_map, IfSome, refl, sym, ap, subst, ◌∙◌, lit<, arith}
+use Rattle.std.proofs.Common.{◌≡◌, ◌≢◌, ◌<◌, ◌≤◌, ◌^◌, ℕ, zero, suc, ◌+◌, Bool, true, false, nat_le, List, [], ◌∷◌, ◌++◌, length, get_or, Option, None, Some, IfSome, refl, ap, ◌∙◌, lit<, arith}
 use Rattle.std.specs.List.{filter_map, zip, list_all}
 use Rattle.std.specs.Fmt.{decimal}
 use Rattle.std.proofs.lemmas.Bool.{and_parts, and_from, eq-eqb, ne_eqb, le-leb, leb-true}
 use Rattle.opus_sdp.specs.Number.{value_of}
-use Rattle.opus_sdp.specs.Table.{Row, table, row_at, row_of, is_named, is_allowed}
+use Rattle.opus_sdp.specs.Table.{Row, table, row_at, row_of}
 use Rattle.opus_sdp.specs.Params.{number, others}
-use Rattle.opus_sdp.specs.Grammar.{is_name, AreAllowed}
+use Rattle.opus_sdp.specs.Grammar.{is_name}
 use Rattle.opus_sdp.specs.Printed.{flag_number, row_param, numbers_of, IsFmtp}
 use Rattle.opus_sdp.specs.declared.param.Param.{Param}
 use Rattle.opus_sdp.specs.declared.fmtp.Fmtp.{Fmtp}
-use Rattle.opus_sdp.proofs.NumberLemmas.{value_of-decimal, number_within-decimal}
-use Rattle.opus_sdp.proofs.TableLemmas.{is_allowed-row}
-use Rattle.opus_sdp.proofs.ParamsLemmas.{is_named-known}
+use Rattle.opus_sdp.proofs.NumberLemmas.{value_of-decimal}
 
 -- the rows from an index on
 
@@ -39,17 +37,16 @@ flag-fits (Some false) = (omega arith, omega arith)
 
 pub value-fits : (m : Fmtp) → IsFmtp m → FitRows table (numbers_of m)
 unfolding table
-value-fits m is =
+value-fits m is = (
+  is.max_playback_rate,
+  (
+    is.max_capture_rate,
     (
-      is.max_playback_rate,
-      (
-        is.max_capture_rate,
-        (
-          is.max_average_bitrate,
-          (flag-fits m.stereo, (flag-fits m.sprop_stereo, (flag-fits m.cbr, (flag-fits m.in_band_fec, (flag-fits m.dtx, tt))))),
-        ),
-      ),
-    )
+      is.max_average_bitrate,
+      (flag-fits m.stereo, (flag-fits m.sprop_stereo, (flag-fits m.cbr, (flag-fits m.in_band_fec, (flag-fits m.dtx, tt))))),
+    ),
+  ),
+)
 
 -- the parameters of these rows, and others behind them
 

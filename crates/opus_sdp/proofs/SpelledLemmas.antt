@@ -19,6 +19,12 @@ trim_end-full (b ∷ text) full =
     let (first, rest) = and_parts (not (is_blank b)) (list_all (λ x. not (is_blank x)) text) full in
     trim_end-at b text (not-true (is_blank b) first) ∙ ap (λ l. b ∷ l) (trim_end-full text rest)
 
+pub trim_start-full : (text : List ℕ) → list_all (λ b. not (is_blank b)) text ≡ true → trim_start text ≡ text
+trim_start-full [] full = refl
+trim_start-full (b ∷ text) full =
+    let (first, rest) = and_parts (not (is_blank b)) (list_all (λ x. not (is_blank x)) text) full in
+    trim_start-at b text (not-true (is_blank b) first)
+
 pub name-full : (name : List ℕ) → is_name name ≡ true → trim_end name ≡ name
 name-full name is =
     let (some, bytes) = and_parts (nat_lt 0 (length name)) (list_all is_name_byte name) is in
