@@ -19,4 +19,6 @@ pub mod ValueLemmas
 pub mod RowsLemmas
 pub mod PrintedLemmas
 pub mod PrintedLineLemmas
+pub mod NewlineLemmas
+pub mod LawLemmas
 pub mod StandardFacts

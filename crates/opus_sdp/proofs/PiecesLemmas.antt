@@ -5,7 +5,7 @@ use Rattle.std.specs.Option.{option_or}
 use Rattle.std.proofs.lemmas.Bool.{and_parts, and_from, not-true}
 use Rattle.opus_sdp.specs.Text.{is_blank, is_semicolon}
 use Rattle.opus_sdp.specs.Table.{is_named, is_allowed}
-use Rattle.opus_sdp.specs.Grammar.{are_blank, is_name_byte, is_value_byte, SpellsParam, AreSpelled, SpellsParams, AreAllowed}
+use Rattle.opus_sdp.specs.Grammar.{is_name_byte, is_value_byte, SpellsParam, AreSpelled, SpellsParams, AreAllowed}
 use Rattle.opus_sdp.specs.Parts.{Part, part_at, trimmed, placed, parts_of, value_at, param_of}
 use Rattle.opus_sdp.specs.Fault.{first_fault}
 use Rattle.opus_sdp.specs.declared.param.Param.{Param}
@@ -19,31 +19,38 @@ use Rattle.opus_sdp.proofs.SpelledLemmas.{Reads, read-spelled, read-blank}
 abbrev pub is_uncut : List ℕ → Bool
 is_uncut text = list_all (λ b. not (is_semicolon b)) text
 
-blank-uncut : (text : List ℕ) → are_blank text ≡ true → is_uncut text ≡ true
-blank-uncut = list_all_weaker is_blank (λ b. not (is_semicolon b)) blank-no_semicolon
+-- what blanks, names, values and `=` pass, a parameter and the pieces pass
 
-param-uncut : (q : Param) (text : List ℕ) → SpellsParam q text → is_uncut text ≡ true
-param-uncut q text s =
-    let uncut = λ (b : ℕ). not (is_semicolon b) in
+param-passes : (p : ℕ → Bool) → ((b : ℕ) → is_blank b ≡ true → p b ≡ true) → ((b : ℕ) → is_name_byte b ≡ true → p b ≡ true)
+    → ((b : ℕ) → is_value_byte b ≡ true → p b ≡ true) → p 61 ≡ true
+    → (q : Param) (text : List ℕ) → SpellsParam q text → list_all p text ≡ true
+param-passes p blank_passes name_passes value_passes equals q text s =
+    let blank = list_all_weaker is_blank p blank_passes in
     let (some, bytes) = and_parts (nat_lt 0 (length q.name)) (list_all is_name_byte q.name) s.name in
-    let name = list_all_weaker is_name_byte uncut name-no_semicolon q.name bytes in
-    let value = list_all_weaker is_value_byte uncut value-no_semicolon q.value s.value.bytes in
-    let head = list_all-both uncut q.name s.between name (blank-uncut s.between s.blank_between) in
-    let tail = list_all-both uncut s.behind q.value (blank-uncut s.behind s.blank_behind) value in
-    let core = list_all-both uncut (q.name ++ s.between) (61 ∷ (s.behind ++ q.value)) head tail in
-    subst (λ t. is_uncut t ≡ true) (sym s.spelled)
-    (list_all-both uncut s.before _ (blank-uncut s.before s.blank_before)
-    (list_all-both uncut ((q.name ++ s.between) ++ 61 ∷ (s.behind ++ q.value)) s.after core (blank-uncut s.after s.blank_after)))
+    let name = list_all_weaker is_name_byte p name_passes q.name bytes in
+    let value = list_all_weaker is_value_byte p value_passes q.value s.value.bytes in
+    let head = list_all-both p q.name s.between name (blank s.between s.blank_between) in
+    let tail = and_from _ _ equals (list_all-both p s.behind q.value (blank s.behind s.blank_behind) value) in
+    let core = list_all-both p (q.name ++ s.between) (61 ∷ (s.behind ++ q.value)) head tail in
+    subst (λ t. list_all p t ≡ true) (sym s.spelled)
+    (list_all-both p s.before (((q.name ++ s.between) ++ 61 ∷ (s.behind ++ q.value)) ++ s.after) (blank s.before s.blank_before)
+    (list_all-both p ((q.name ++ s.between) ++ 61 ∷ (s.behind ++ q.value)) s.after core (blank s.after s.blank_after)))
 
-pub pieces-uncut : (pieces : List (Option Param)) (texts : List (List ℕ)) → AreSpelled pieces texts → list_all is_uncut texts ≡ true
-pieces-uncut [] [] are = refl
-pieces-uncut [] (text ∷ texts) are = absurd are
-pieces-uncut (None ∷ pieces) [] are = absurd are
-pieces-uncut (Some q ∷ pieces) [] are = absurd are
-pieces-uncut (None ∷ pieces) (text ∷ texts) are =
-    and_from _ _ (blank-uncut text are.0) (pieces-uncut pieces texts are.1)
-pieces-uncut (Some q ∷ pieces) (text ∷ texts) are =
-    and_from _ _ (param-uncut q text are.0) (pieces-uncut pieces texts are.1)
+pub pieces-pass : (p : ℕ → Bool) → ((b : ℕ) → is_blank b ≡ true → p b ≡ true) → ((b : ℕ) → is_name_byte b ≡ true → p b ≡ true)
+    → ((b : ℕ) → is_value_byte b ≡ true → p b ≡ true) → p 61 ≡ true
+    → (pieces : List (Option Param)) (texts : List (List ℕ)) → AreSpelled pieces texts → list_all (list_all p) texts ≡ true
+pieces-pass p blank name value equals [] [] are = refl
+pieces-pass p blank name value equals [] (text ∷ texts) are = absurd are
+pieces-pass p blank name value equals (None ∷ pieces) [] are = absurd are
+pieces-pass p blank name value equals (Some q ∷ pieces) [] are = absurd are
+pieces-pass p blank name value equals (None ∷ pieces) (text ∷ texts) are =
+    and_from _ _ (list_all_weaker is_blank p blank text are.0) (pieces-pass p blank name value equals pieces texts are.1)
+pieces-pass p blank name value equals (Some q ∷ pieces) (text ∷ texts) are =
+    and_from _ _ (param-passes p blank name value equals q text are.0) (pieces-pass p blank name value equals pieces texts are.1)
+
+pieces-uncut : (pieces : List (Option Param)) (texts : List (List ℕ)) → AreSpelled pieces texts → list_all is_uncut texts ≡ true
+pieces-uncut =
+    pieces-pass (λ b. not (is_semicolon b)) blank-no_semicolon name-no_semicolon value-no_semicolon refl
 
 -- they are cut apart again
 

@@ -4,6 +4,7 @@
 mod fault;
 mod fmtp;
 mod found;
+pub mod laws;
 mod names;
 mod number;
 mod param;
