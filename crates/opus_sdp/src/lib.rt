@@ -10,6 +10,8 @@ mod number;
 mod param;
 mod read;
 mod table;
+#[cfg(test)]
+mod tests;
 mod text;
 mod write;
 mod written;
@@ -18,4 +20,5 @@ pub use fault::SdpFault;
 pub use fmtp::{Fmtp, Rtpmap};
 pub use param::{Param, Params};
 pub use read::{read_fmtp, read_rtpmap};
+pub use text::is_line;
 pub use write::{write_fmtp, write_rtpmap};

@@ -1,5 +1,5 @@
 //! Reading the two lines.
-ghost use Rattle.std.specs.Prelude.{◌≡◌, ◌⊎◌, ◌+◌, ◌^◌, ◌<◌, ◌≤◌, true, None, Some, Ok, Err, [], map, length, codes, IfOk, IfErr};
+ghost use Rattle.std.specs.Prelude.{◌≡◌, ◌⊎◌, ◌+◌, ◌^◌, ◌<◌, ◌≤◌, true, None, Some, Ok, Err, [], map, length, codes, IsTrue, IfOk, IfErr};
 ghost use Rattle.opus_sdp.specs.Text.{is_line, trim};
 ghost use Rattle.opus_sdp.specs.Number.{value_of};
 ghost use Rattle.opus_sdp.specs.Table.{same_name};
@@ -57,7 +57,7 @@ fn read_params(alloc: Global, at: usize, text: &[u8], payload_type: u8) -> Resul
 
 /// Reads a line that begins with `a=fmtp:`, without its newline (RFC 7587, 6.1).
 pub fn read_fmtp(alloc: Global, line: &[u8]) -> Result<Fmtp, SdpFault>
-    requires { is_line line.now ≡ true }
+    requires { IsTrue (is_line line.now) }
     // What is read is spelled so, each byte of it; and what is spelled so is read.
     ensures found { IfOk result (λ m. IsFmtpLine m line.now) }
     ensures only { (m : Fmtp) → IsFmtpLine m line.now

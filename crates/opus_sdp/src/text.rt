@@ -1,7 +1,14 @@
 //! Blanks, and where a text is cut.
 ghost use Rattle.std.specs.Prelude.{◌≡◌, ◌==◌, ◌≤◌, length};
 ghost use Rattle.std.specs.List.{prefix_len, position_or_len};
-ghost use Rattle.opus_sdp.specs.Text.{is_blank, trim_end};
+ghost use Rattle.opus_sdp.specs.Text.{is_line, is_blank, trim_end};
+
+/// Whether the text is of a single line: it holds no newline.
+pub fn is_line(text: &[u8]) -> bool
+    ensures { result ≡ is_line text.now }
+{
+    text.iter().all(|byte| *byte != b'\n')
+}
 
 // Space, tab and carriage return.
 fn is_blank(byte: u8) -> bool
