@@ -7,7 +7,7 @@ use Rattle.std.proofs.lemmas.Grind.{flat_map-append}
 use Rattle.job_loop.specs.Shown.{Shown}
 use Rattle.job_loop.specs.Meaning.{Run, going, broke, adds, runs, closes, outcome}
 use Rattle.job_loop.specs.declared.input_end.InputEnd.TheVariants.{Closed}
-use Rattle.opus_packet.specs.Value.{PacketValue}
+use Rattle.opus_packet.specs.Value.{PacketValue, IsPacketValue}
 use Rattle.opus_repack.specs.Collected.{with_frames}
 use Rattle.opus_words.specs.declared.form.Form.{Form}
 use Rattle.pack_records.specs.declared.item.Found.{Found}
@@ -21,7 +21,8 @@ use Rattle.pack_jobs.specs.declared.refusal.Refusal.{Refusal}
 use Rattle.pack_jobs.specs.Refusal.{told, refusal_of, refusal_at}
 use Rattle.pack_jobs.specs.Records.{record_bytes}
 use Rattle.pack_jobs.specs.Merge.{Group, group_of, no_packets, with_packet, with_lent, takes_none, group_text, full_text, next_group, put_behind, lent_behind, MergeKept, kept_of, group_goes, merge_put, merge_packet, merge_found, merge}
-use Rattle.pack_jobs.specs.Groups.{Part, packets, lost, records_of, IsPacket, IsLost, IsGroup, IsClosedBy, AreGroups, IsCutInto, packet_in, listed, values_of, merged_with, merged, last_range, part_text, texts_of, AreLent}
+use Rattle.pack_jobs.specs.Groups.{Part, packets, lost, records_of, IsPacket, IsLost, IsGroup, IsClosedBy, AreGroups, IsCutInto, CanMerge, CanAllMerge, packet_in, listed, values_of, merged_with, merged, last_range, part_text, texts_of, AreLent}
+use Rattle.pack_jobs.proofs.GroupKinds.{can-more}
 use Rattle.pack_jobs.proofs.RunLemmas.{runs-broke, going-text, going≢broke}
 
 -- ---- the group of some packets
@@ -103,10 +104,12 @@ opened-text form most (r ∷ rs) parts = refl
 record IsOpen (most : Option ℕ) (rs : List (Shown Item)) : Type 0 where
   each : AllByRecursion (λ r. IsPacket r.item.found) rs
   within : IfSome most (λ n. length rs < n)
+  can : CanMerge (values_of rs)
 
 record IsWithin (most : Option ℕ) (rs : List (Shown Item)) : Type 0 where
   each : AllByRecursion (λ r. IsPacket r.item.found) rs
   within : IfSome most (λ n. length rs ≤ n)
+  can : CanMerge (values_of rs)
 
 weaker : (most : Option ℕ) (n : ℕ) → IfSome most (λ k. n < k) → IfSome most (λ k. n ≤ k)
 weaker None n within = tt
@@ -117,13 +120,18 @@ next-within None n m is within = tt
 next-within (Some k) n m is within = omega (arith, within, is)
 
 open-within : (most : Option ℕ) (rs : List (Shown Item)) → IsOpen most rs → IsWithin most rs
-open-within most rs o = record { each = o.each; within = weaker most (length rs) o.within }
+open-within most rs o = record { each = o.each; within = weaker most (length rs) o.within; can = o.can }
 
 opened-groups : (most : Option ℕ) (rs : List (Shown Item)) (parts : List Part) → IsWithin most rs
     → IsClosedBy most (length rs) parts → AreGroups most parts → AreGroups most (opened rs parts)
 opened-groups most [] parts is closed groups = groups
 opened-groups most (r ∷ rs) parts is closed groups =
     (record { each = is.each; some = omega arith; within = is.within }, closed, groups)
+
+opened-can : (rs : List (Shown Item)) (parts : List Part) → CanMerge (values_of rs) → CanAllMerge parts
+    → CanAllMerge (opened rs parts)
+opened-can [] parts can all = all
+opened-can (r ∷ rs) parts can all = (can, all)
 
 full-closed : (most : Option ℕ) (n : ℕ) (parts : List Part) → most ≡ Some n → IsClosedBy most n parts
 full-closed most n [] is = tt
@@ -149,6 +157,7 @@ record IsMerged (form : Form) (most : Option ℕ) (before : List ℕ) (held rs :
   parts : List Part
   all : held ++ rs ≡ flat_map records_of parts
   groups : AreGroups most parts
+  can : CanAllMerge parts
   text_is : text ≡ before ++ texts_of form parts
 
 -- what is to be shown of records, whatever group is open before them
@@ -166,26 +175,29 @@ at_end form most before text count held is e = record {
   parts = opened held [];
   all = sym (opened-all held []);
   groups = opened-groups most held [] (open-within most held is) tt tt;
+  can = opened-can held [] is.can tt;
   text_is = sym (going-text _ _ tt tt e)
       ∙ ap (λ l. before ++ l) (sym (append-nil (group_text form (at most held))) ∙ sym (opened-text form most held []));
 }
 
 -- a group that is closed before other parts
 closed_before : (form : Form) (most : Option ℕ) (before text : List ℕ) (held rs : List (Shown Item)) (parts : List Part)
-    → IsWithin most held → IsClosedBy most (length held) parts → AreGroups most parts → rs ≡ flat_map records_of parts
+    → IsWithin most held → IsClosedBy most (length held) parts → AreGroups most parts
+    → CanAllMerge parts → rs ≡ flat_map records_of parts
     → text ≡ (before ++ group_text form (at most held)) ++ texts_of form parts
     → IsMerged form most before held rs text
-closed_before form most before text held rs parts is closed groups all text_is = record {
+closed_before form most before text held rs parts is closed groups can all text_is = record {
   parts = opened held parts;
   all = ap (λ l. held ++ l) all ∙ sym (opened-all held parts);
   groups = opened-groups most held parts is closed groups;
+  can = opened-can held parts is.can can;
   text_is = text_is ∙ append_assoc before (group_text form (at most held)) (texts_of form parts)
       ∙ ap (λ l. before ++ l) (sym (opened-text form most held parts));
 }
 
 nothing-open : (most : Option ℕ) → IfSome most (λ n. 1 ≤ n) → IsOpen most []
-nothing-open None some = record { each = tt; within = tt }
-nothing-open (Some n) some = record { each = tt; within = omega (arith, some) }
+nothing-open None some = record { each = tt; within = tt; can = tt }
+nothing-open (Some n) some = record { each = tt; within = omega (arith, some); can = tt }
 
 at_loss : (form : Form) (most : Option ℕ) (before text : List ℕ) (count : ℕ) (held : List (Shown Item)) (r : Shown Item)
     (rs : List (Shown Item)) → IfSome most (λ n. 1 ≤ n) → AreMerged form most rs → IsOpen most held → IsLost r.item.found
@@ -198,6 +210,7 @@ at_loss form most before text count held r rs some behind is gone e =
     let m = behind (before ++ (group ++ own)) text count [] (nothing-open most some)
     (ap (λ g. ended form most (going (before ++ (group ++ own)) (kept_of count g)) rs) (sym (at-none most)) ∙ e) in
     closed_before form most before text held (r ∷ rs) (lost r ∷ m.parts) (open-within most held is) tt (gone, m.groups)
+    (tt, m.can)
     (ap (λ l. r ∷ l) m.all)
     (m.text_is ∙ ap (λ l. l ++ texts_of form m.parts) (sym (append_assoc before group own))
     ∙ append_assoc (before ++ group) own (texts_of form m.parts))
@@ -205,45 +218,49 @@ at_loss form most before text count held r rs some behind is gone e =
 -- behind one packet more
 at_packet : (form : Form) (most : Option ℕ) (before text : List ℕ) (count : ℕ) (held : List (Shown Item)) (r : Shown Item)
     (rs : List (Shown Item)) (b : Bool) → IfSome most (λ n. 1 ≤ n) → AreMerged form most rs → IsOpen most held
-    → IsPacket r.item.found → takes_none (at most (held ++ r ∷ [])).left ≡ b
+    → IsPacket r.item.found → CanMerge (values_of (held ++ r ∷ [])) → takes_none (at most (held ++ r ∷ [])).left ≡ b
     → ended form most (going (before ++ (if b then group_text form (at most (held ++ r ∷ [])) else []))
     (kept_of count (if b then no_packets most else at most (held ++ r ∷ [])))) rs ≡ going text tt
     → IsMerged form most before held (r ∷ rs) text
-at_packet form most before text count held r rs true some behind is sent full e =
+at_packet form most before text count held r rs true some behind is sent can full e =
     let more = held ++ r ∷ [] in
     let group = group_text form (at most more) in
     let within = next-within most (length held) (length more) (length-more held r) is.within in
     let m = behind (before ++ group) text count [] (nothing-open most some)
     (ap (λ g. ended form most (going (before ++ group) (kept_of count g)) rs) (sym (at-none most)) ∙ e) in
     let c = closed_before form most before text more rs m.parts
-    (record { each = each-more held r is.each sent; within = within })
-    (full-closed most (length more) m.parts (full-is most (length more) full within)) m.groups m.all m.text_is in record {
+    (record { each = each-more held r is.each sent; within = within; can = can })
+    (full-closed most (length more) m.parts (full-is most (length more) full within)) m.groups m.can m.all m.text_is in record {
       parts = c.parts;
       all = sym (append_assoc held (r ∷ []) rs) ∙ c.all;
       groups = c.groups;
+      can = c.can;
       text_is = c.text_is;
     }
-at_packet form most before text count held r rs false some behind is sent less e =
+at_packet form most before text count held r rs false some behind is sent can less e =
     let more = held ++ r ∷ [] in
     let within = next-within most (length held) (length more) (length-more held r) is.within in
     let m = behind (before ++ []) text count more
-    (record { each = each-more held r is.each sent; within = open-is most (length more) less within }) e in record {
+    (record { each = each-more held r is.each sent; within = open-is most (length more) less within; can = can }) e in record {
       parts = m.parts;
       all = sym (append_assoc held (r ∷ []) rs) ∙ m.all;
       groups = m.groups;
+      can = m.can;
       text_is = m.text_is ∙ ap (λ l. l ++ texts_of form m.parts) (append-nil before);
     }
 
 at_put : (form : Form) (most : Option ℕ) (before text : List ℕ) (count : ℕ) (held : List (Shown Item)) (r : Shown Item)
     (rs : List (Shown Item)) (v : PacketValue) (res : Result (Unit {0}) Why) → IfSome most (λ n. 1 ≤ n)
     → AreMerged form most rs → IsOpen most held → IsPacket r.item.found → packet_in r.item.found r.bytes ≡ v ∷ []
+    → IsPacketValue v → put_behind (merged (values_of held)) v ≡ res
     → ended form most (adds before (merge_put form most (kept_of count (at most held)) r.item
     (with_packet (at most held) v r.item.range) res)) rs ≡ going text tt
     → IsMerged form most before held (r ∷ rs) text
-at_put form most before text count held r rs v (Ok done) some behind is sent value e =
-    at_packet form most before text (count + 1) held r rs (takes_none (at most (held ++ r ∷ [])).left) some behind is sent refl
+at_put form most before text count held r rs v (Ok done) some behind is sent value own put e =
+    at_packet form most before text (count + 1) held r rs (takes_none (at most (held ++ r ∷ [])).left) some behind is sent
+    (subst CanMerge (sym (values-more held r v value)) (can-more (values_of held) v done own is.can put)) refl
     (ap (λ g. ended form most (adds before (group_goes form most (count + 1) g)) rs) (sym (at-more most held r v value)) ∙ e)
-at_put form most before text count held r rs v (Err why) some behind is sent value e =
+at_put form most before text count held r rs v (Err why) some behind is sent value own put e =
     absurd (broken form most text (before ++ []) (refusal_of (told count) r.item.place why) rs e)
 
 at_record : (form : Form) (most : Option ℕ) (before text : List ℕ) (count : ℕ) (held : List (Shown Item)) (r : Shown Item)
@@ -256,7 +273,7 @@ at_record form most before text count held r rs (Packet framing shape size) some
     ap (lent_value framing) fits.bytes_are ∙ lent_value-form framing fits.value fits.tail fits.is_value fits.small in
     let k = kept_of count (at most held) in
     at_put form most before text count held r rs fits.value (put_behind (merged (values_of held)) fits.value) some behind is
-    (subst IsPacket (sym found_is) tt) (ap (λ f. packet_in f r.bytes) found_is ∙ ap listed value)
+    (subst IsPacket (sym found_is) tt) (ap (λ f. packet_in f r.bytes) found_is ∙ ap listed value) fits.is_value refl
     (ap (λ o. ended form most (adds before (merge_packet form most k r.item o)) rs) (sym value) ∙ e)
 at_record form most before text count held r rs Lost some behind is found_is fits e =
     at_loss form most before text (count + 1) held r rs some behind is (subst IsLost (sym found_is) tt) e
@@ -271,8 +288,8 @@ all_merged form most (r ∷ rs) some fits = λ before text count held is e.
 
 pub merge_written : (form : Form) (most : Option ℕ) (rs : List (Shown Item)) (text : List ℕ) → IfSome most (λ n. 1 ≤ n)
     → AreLent rs → outcome (merge form most) rs Closed ≡ going text tt
-    → (parts : List Part) × IsCutInto most rs parts × (text ≡ texts_of form parts)
+    → (parts : List Part) × IsCutInto most rs parts × CanAllMerge parts × (text ≡ texts_of form parts)
 merge_written form most rs text some fits e =
     let m = all_merged form most rs some fits [] text 0 [] (nothing-open most some)
     (ap (λ g. ended form most (going [] (kept_of 0 g)) rs) (sym (at-none most)) ∙ e) in
-    (m.parts, record { all = m.all; groups = m.groups }, m.text_is)
+    (m.parts, record { all = m.all; groups = m.groups }, m.can, m.text_is)

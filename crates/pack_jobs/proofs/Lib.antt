@@ -6,6 +6,7 @@ pub mod EachLemmas
 pub mod PieceLemmas
 pub mod SplitLemmas
 pub mod MergeLemmas
+pub mod GroupKinds
 pub mod GroupLemmas
 pub mod GroupFrames
 pub mod NormLemmas

@@ -1,5 +1,5 @@
 -- The jobs, computed on small records.
-use Rattle.std.proofs.Common.{◌≡◌, ℕ, List, [], ◌∷◌, ◌++◌, false, codes, decimal, ap, ◌∙◌, refl, arith}
+use Rattle.std.proofs.Common.{◌≡◌, ℕ, List, [], ◌∷◌, ◌++◌, false, Some, None, codes, decimal, ap, ◌∙◌, refl, arith}
 use Rattle.std.proofs.lemmas.Fmt.{decimal_digit}
 use Rattle.job_loop.specs.Shown.{Shown}
 use Rattle.job_loop.specs.Meaning.{going, broke, outcome}
@@ -17,9 +17,10 @@ use Rattle.pack_records.specs.declared.item.Found.TheVariants.{Packet}
 use Rattle.pack_records.specs.declared.item.Item.{Item}
 use Rattle.pack_records.specs.Holds.{record_of, bad_record, lost_record}
 use Rattle.pack_records.specs.Lent.{lent_value}
-use Rattle.pack_jobs.specs.declared.refusal.Why.TheVariants.{Fault, PaddingLong, StoreCut}
+use Rattle.pack_jobs.specs.declared.refusal.Why.TheVariants.{Fault, PaddingLong, StoreCut, MixedKind}
 use Rattle.pack_jobs.specs.Refusal.{refusal_of, refusal_text, fault_text}
 use Rattle.pack_jobs.specs.Norm.{norm}
+use Rattle.pack_jobs.specs.Merge.{merge}
 use Rattle.pack_jobs.specs.Split.{split}
 use Rattle.pack_jobs.specs.Check.{check, check_line}
 use Rattle.pack_jobs.specs.Written.{lines_from}
@@ -73,6 +74,36 @@ split_keeps_the_range_at_the_last_piece = refl
 split_stops_at_a_bad_one : outcome (split Demo 2) (gone ∷ long ∷ three ∷ []) Closed
     ≡ broke (0 ∷ 0 ∷ 0 ∷ 0 ∷ 0 ∷ 0 ∷ 0 ∷ 9 ∷ []) (refusal_of 1 27 (Fault (fault R5 1)))
 split_stops_at_a_bad_one = refl
+
+-- merge: packets with a lost record behind them, in one group and in groups of one
+abbrev single : ℕ → ℕ → Shown Item
+single range byte = record_of 8 10 range (Packet Whole (shape_of 0 false 0) 2) (0xF8 ∷ byte ∷ [])
+
+abbrev other : Shown Item
+other = record_of 18 20 2 (Packet Whole (shape_of 0 false 0) 2) (0xFC ∷ 0xBB ∷ [])
+
+abbrev sole : ℕ → ℕ → List ℕ
+sole range byte = 0 ∷ 0 ∷ 0 ∷ 2 ∷ 0 ∷ 0 ∷ 0 ∷ range ∷ 0xF8 ∷ byte ∷ []
+
+merge_writes_a_group_before_a_lost_one : outcome (merge Demo None) (single 1 0xAA ∷ single 2 0xBB ∷ gone ∷ []) Closed
+    ≡ going (0 ∷ 0 ∷ 0 ∷ 3 ∷ 0 ∷ 0 ∷ 0 ∷ 2 ∷ 0xF9 ∷ 0xAA ∷ 0xBB ∷ 0 ∷ 0 ∷ 0 ∷ 0 ∷ 0 ∷ 0 ∷ 0 ∷ 9 ∷ []) tt
+unfolding lent_value canonical header_read header_bytes samples_of row_of
+merge_writes_a_group_before_a_lost_one = refl
+
+merge_writes_a_full_group_at_once : outcome (merge Demo (Some 1)) (single 1 0xAA ∷ single 2 0xBB ∷ []) Past
+    ≡ going (sole 1 0xAA ++ sole 2 0xBB) tt
+unfolding lent_value canonical header_read header_bytes samples_of row_of
+merge_writes_a_full_group_at_once = refl
+
+merge_writes_no_open_group_at_a_cut : outcome (merge Demo None) (gone ∷ single 1 0xAA ∷ []) (Cut (record { place = 30 }))
+    ≡ broke (0 ∷ 0 ∷ 0 ∷ 0 ∷ 0 ∷ 0 ∷ 0 ∷ 9 ∷ []) (refusal_of 2 30 StoreCut)
+unfolding lent_value header_read header_bytes samples_of row_of
+merge_writes_no_open_group_at_a_cut = refl
+
+merge_refuses_other_channels : outcome (merge Demo None) (single 1 0xAA ∷ other ∷ []) Closed
+    ≡ broke [] (refusal_of 1 20 MixedKind)
+unfolding lent_value header_read header_bytes samples_of row_of
+merge_refuses_other_channels = refl
 
 -- lines, with the digits of their numbers
 abbrev lines : List ℕ → List ℕ → List ℕ → List ℕ

@@ -25,7 +25,7 @@ ghost use Rattle.pack_jobs.specs.SameRecords.{AreRecordsOf, AgreeOneByOne};
 ghost use Rattle.pack_jobs.specs.Each.{Made, each, texts_from, AreWritten, FirstRefusedBy};
 ghost use Rattle.pack_jobs.specs.Split.{pieces, split_record, split, HasFullPieces};
 ghost use Rattle.pack_jobs.specs.Merge.{merge};
-ghost use Rattle.pack_jobs.specs.Groups.{Part, IsCutInto, values_of, frames_of, texts_of, part_frames, AreLent};
+ghost use Rattle.pack_jobs.specs.Groups.{Part, IsCutInto, CanAllMerge, values_of, frames_of, texts_of, part_frames, AreLent};
 ghost use Rattle.pack_jobs.specs.PackEnds.{ends_in};
 ghost use Rattle.pack_jobs.specs.Again.{IsReadAgain};
 
@@ -105,11 +105,12 @@ pub fn pieces_keep_all_frames()
 {}
 
 /// What merge writes is the records in groups, cut at each lost record and behind every so many packets: each group as
-/// one packet with the range of its last record, and each lost record as it is.
+/// one packet with the range of its last record, and each lost record as it is. The packets of a group have one kind, and
+/// last at most 120 ms.
 pub fn merge_writes_each_group_as_one_packet()
     ensures written { (form : Form) (most : Option ℕ) (rs : List (Shown Item)) (text : List ℕ)
         → IfSome most (λ n. 1 ≤ n) → AreLent rs → outcome (merge form most) rs ends.Closed ≡ going text tt
-        → (parts : List Part) × IsCutInto most rs parts × (text ≡ texts_of form parts) }
+        → (parts : List Part) × IsCutInto most rs parts × CanAllMerge parts × (text ≡ texts_of form parts) }
 {}
 
 /// No frame is lost where records are merged: the groups have all frames of the records, in order.
