@@ -50,7 +50,7 @@ impl Job {
             JobKind::Show => false,
             JobKind::Merge => true,
             JobKind::Split => true,
-            JobKind::Pad => false,
+            JobKind::Pad => true,
             JobKind::Apart => false,
             JobKind::Join => false,
             JobKind::Extract => false,

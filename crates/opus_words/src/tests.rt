@@ -106,6 +106,18 @@ fn takes_split_with_its_frames(rt: HostRuntime) -> Result<(), Fail> {
     Ok(())
 }
 
+#[test]
+fn takes_pad_with_its_size(rt: HostRuntime) -> Result<(), Fail> {
+    let mut pad = NORM;
+    pad.kind = JobKind::Pad;
+    pad.form = Some(Form::Raw);
+    pad.streams = None;
+    pad.size = Some(33_554_431);
+    pad.padding = None;
+    assert_eq!(rt; answer(rt.alloc(), "pad --size 33554431")?, Ok(pad));
+    Ok(())
+}
+
 /// Each row has words, and then the usage kind that they give.
 const ROWS: &str = "\
 norm --loud yes = Words
@@ -180,7 +192,6 @@ norm --form self --streams 2 = Value(Streams)
 norm --streams 2 = NotBuilt
 check --streams 2 = NotBuilt
 show --form self = NotBuilt
-pad --size 33554431 = NotBuilt
 apart --streams 255 = NotBuilt
 join --streams 1 = NotBuilt
 extract --streams 255 --stream 254 = NotBuilt

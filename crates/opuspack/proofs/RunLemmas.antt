@@ -11,7 +11,7 @@ use Rattle.opus_words.specs.declared.fault.UsageKind.{UsageKind}
 use Rattle.opus_words.specs.declared.form.Form.{Form}
 use Rattle.opus_words.specs.declared.job.Job.{Job}
 use Rattle.opus_words.specs.declared.kind.JobKind.{JobKind}
-use Rattle.opus_words.specs.declared.kind.JobKind.TheVariants.{Norm, Check, Merge, Split, Head, Send, Make}
+use Rattle.opus_words.specs.declared.kind.JobKind.TheVariants.{Norm, Check, Merge, Split, Pad, Head, Send, Make}
 use Rattle.opus_words.specs.declared.option.Opt.TheVariants as opt
 use Rattle.pack_jobs.specs.PackEnds.{IsPackKind, IsPackJob, PackEnds, form_in, padding_in, settles_in, ends_in}
 use Rattle.pack_jobs.proofs.PackLemmas.{unstarted_kind, none_settled}
@@ -35,6 +35,7 @@ is_pack Norm job built other = tt
 is_pack Check job built other = tt
 is_pack Merge job built other = tt
 is_pack Split job built other = tt
+is_pack Pad job built other = tt
 is_pack Head job built other = other.head refl
 is_pack Send job built other = other.send refl
 is_pack Make job built other = other.make refl
@@ -49,6 +50,7 @@ pack_form Norm is form fits = some_and form _ fits
 pack_form Check is form fits = some_and form _ fits
 pack_form Merge is form fits = some_and form _ fits
 pack_form Split is form fits = some_and form _ fits
+pack_form Pad is form fits = some_and form _ fits
 pack_form kind is form fits = absurd is
 
 one_stream : (streams : Option ℕ) → option_map_or (λ n. n == 1) streams false ≡ true → IfSome streams (λ n. n ≡ 1)
@@ -61,6 +63,7 @@ pack_streams Norm job built is number = one_stream job.streams built
 pack_streams Check job built is number = one_stream job.streams built
 pack_streams Merge job built is number = subst (λ o. IfSome o (λ n. n ≡ 1)) (sym number) tt
 pack_streams Split job built is number = subst (λ o. IfSome o (λ n. n ≡ 1)) (sym number) tt
+pack_streams Pad job built is number = subst (λ o. IfSome o (λ n. n ≡ 1)) (sym number) tt
 pack_streams kind job built is number = absurd is
 
 pub is_pack_job : (job : Job) → IsFit job → IsOther job.kind → IsPackJob job
@@ -113,6 +116,8 @@ unstarted Norm job limit outside Unread Unwritten unread same built is =
 unstarted Check job limit outside Unread Unwritten unread same built is =
     pack_unstarted job limit outside Unread unread (subst IsPackKind (sym is) tt)
 unstarted Merge job limit outside Unread Unwritten unread same built is =
+    pack_unstarted job limit outside Unread unread (subst IsPackKind (sym is) tt)
+unstarted Pad job limit outside Unread Unwritten unread same built is =
     pack_unstarted job limit outside Unread unread (subst IsPackKind (sym is) tt)
 unstarted Split job limit outside Unread Unwritten unread same built is =
     pack_unstarted job limit outside Unread unread (subst IsPackKind (sym is) tt)

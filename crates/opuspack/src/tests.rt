@@ -14,6 +14,7 @@ mod make;
 mod merge;
 mod norm;
 mod outside;
+mod pad;
 mod send;
 mod split;
 mod words;

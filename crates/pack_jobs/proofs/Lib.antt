@@ -4,6 +4,7 @@ pub mod RunLemmas
 pub mod RecordLemmas
 pub mod EachLemmas
 pub mod PieceLemmas
+pub mod PadLemmas
 pub mod SplitLemmas
 pub mod MergeLemmas
 pub mod GroupKinds

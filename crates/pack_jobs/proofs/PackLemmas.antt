@@ -30,7 +30,8 @@ use Rattle.pack_jobs.specs.Norm.{norm}
 use Rattle.pack_jobs.specs.Check.{check}
 use Rattle.pack_jobs.specs.Merge.{merge}
 use Rattle.pack_jobs.specs.Split.{split}
-use Rattle.pack_jobs.specs.PackEnds.{seen_as, place_of, MeaningEnds, KindEnds, JobEnds, PackEnds, IsPackKind, form_in, padding_in, most_in, settles_in, ends_in}
+use Rattle.pack_jobs.specs.Pad.{pad}
+use Rattle.pack_jobs.specs.PackEnds.{seen_as, place_of, MeaningEnds, KindEnds, JobEnds, PackEnds, IsPackKind, form_in, padding_in, most_in, size_in, settles_in, ends_in}
 
 wanted : (Lacks Untouched R : Type 0) → (Lacks → ⊥) → (Lacks ⊎ Untouched) ⊎ R → Untouched ⊎ R
 wanted Lacks Untouched R spared (inl (inl lacks)) = absurd (spared lacks)
@@ -88,7 +89,7 @@ unstarted_kind kinds.Check is job = unstarted_ends (check (form_in job))
 unstarted_kind kinds.Show is job = absurd is
 unstarted_kind kinds.Merge is job = unstarted_ends (merge (form_in job) job.group)
 unstarted_kind kinds.Split is job = unstarted_ends (split (form_in job) (most_in job))
-unstarted_kind kinds.Pad is job = absurd is
+unstarted_kind kinds.Pad is job = unstarted_ends (pad (form_in job) (size_in job))
 unstarted_kind kinds.Apart is job = absurd is
 unstarted_kind kinds.Join is job = absurd is
 unstarted_kind kinds.Extract is job = absurd is

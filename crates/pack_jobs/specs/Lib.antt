@@ -6,6 +6,8 @@ pub mod Check
 pub mod CheckStands
 pub mod Written
 pub mod Each
+pub mod Pad
+pub mod PadStands
 pub mod Split
 pub mod SplitStands
 pub mod Merge

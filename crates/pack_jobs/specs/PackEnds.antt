@@ -15,7 +15,7 @@ use Rattle.opus_feed.specs.declared.padding.Padding.TheVariants.{Drop}
 use Rattle.opus_words.specs.declared.form.Form.{Form}
 use Rattle.opus_words.specs.declared.form.Form.TheVariants.{Raw, Demo, SelfDelimited}
 use Rattle.opus_words.specs.declared.kind.JobKind.{JobKind}
-use Rattle.opus_words.specs.declared.kind.JobKind.TheVariants.{Norm, Check, Merge, Split}
+use Rattle.opus_words.specs.declared.kind.JobKind.TheVariants.{Norm, Check, Merge, Split, Pad}
 use Rattle.opus_words.specs.declared.job.Job.{Job}
 use Rattle.opus_words.specs.declared.ending.Ending.{Ending}
 use Rattle.opus_words.specs.declared.ending.Ending.TheVariants.{Ok, Refused, ReadFault, WriteFault, NoMemory, InputLimit}
@@ -30,6 +30,7 @@ use Rattle.pack_jobs.specs.Norm.{norm}
 use Rattle.pack_jobs.specs.Check.{check}
 use Rattle.pack_jobs.specs.Merge.{merge}
 use Rattle.pack_jobs.specs.Split.{split}
+use Rattle.pack_jobs.specs.Pad.{pad}
 
 -- the jobs over packets
 abbrev pub IsPackKind : JobKind → Type 0
@@ -37,6 +38,7 @@ IsPackKind Norm = Unit {0}
 IsPackKind Check = Unit {0}
 IsPackKind Merge = Unit {0}
 IsPackKind Split = Unit {0}
+IsPackKind Pad = Unit {0}
 IsPackKind kind = ⊥
 
 -- one of them, over the packets of one stream, which most jobs don't name
@@ -55,6 +57,10 @@ padding_in job = unwrap_or job.padding Drop
 -- the frames of a piece: one at least, also where the job takes no such option
 abbrev pub most_in : Job → ℕ
 most_in job = max 1 (unwrap_or job.frames 1)
+
+-- the size of a padded packet in bytes
+abbrev pub size_in : Job → ℕ
+size_in job = unwrap_or job.size 0
 
 -- the program's ending tells this one
 abbrev pub TellsEnding : Ending → loop.Ending Refusal → Type 0
@@ -106,6 +112,7 @@ KindEnds Norm job = MeaningEnds (norm (form_in job) (padding_in job))
 KindEnds Check job = MeaningEnds (check (form_in job))
 KindEnds Merge job = MeaningEnds (merge (form_in job) job.group)
 KindEnds Split job = MeaningEnds (split (form_in job) (most_in job))
+KindEnds Pad job = MeaningEnds (pad (form_in job) (size_in job))
 KindEnds kind job = λ Settles Ends limit before after Untouched result. ⊥
 
 -- the job ended as its meaning has it, where Settles and Ends say which records its input has

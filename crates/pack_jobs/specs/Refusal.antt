@@ -6,7 +6,7 @@ use Rattle.opus_packet.specs.declared.fault.Fault as faults
 use Rattle.opus_words.specs.declared.ending.JobFault.{JobFault}
 use Rattle.pack_records.specs.declared.item.Item.{Item}
 use Rattle.pack_jobs.specs.declared.refusal.Why.{Why}
-use Rattle.pack_jobs.specs.declared.refusal.Why.TheVariants.{Fault, PaddingLong, StoreCut, MixedKind, TooLong}
+use Rattle.pack_jobs.specs.declared.refusal.Why.TheVariants as why
 use Rattle.pack_jobs.specs.declared.refusal.Refusal.{Refusal}
 
 -- a number or place as it is told, in 64 bits: itself, up to the greatest of them
@@ -18,7 +18,7 @@ refusal_of index place why = record { index = index; place = place; why = why }
 
 -- the refusal for a record that holds no packet, where this number is told for it
 abbrev pub refusal_at : ℕ → Item → faults.Fault → Refusal
-refusal_at index item fault = refusal_of index (told (item.start + fault.place)) (Fault fault)
+refusal_at index item fault = refusal_of index (told (item.start + fault.place)) (why.Fault fault)
 
 abbrev pub rule_name : Rule → List ℕ
 rule_name R1 = codes "R1"
@@ -37,11 +37,13 @@ fault_text f = rule_name f.rule ++ codes " at " ++ decimal f.place
 
 -- the text of a refusal's note
 abbrev pub refusal_text : Why → List ℕ
-refusal_text (Fault f) = fault_text f
-refusal_text PaddingLong = codes "padding long"
-refusal_text StoreCut = codes "store cut"
-refusal_text MixedKind = codes "mixed kind"
-refusal_text TooLong = codes "too long"
+refusal_text (why.Fault f) = fault_text f
+refusal_text why.PaddingLong = codes "padding long"
+refusal_text why.StoreCut = codes "store cut"
+refusal_text why.MixedKind = codes "mixed kind"
+refusal_text why.TooLong = codes "too long"
+refusal_text why.TooSmall = codes "too small"
+refusal_text why.PadLimit = codes "pad limit"
 
 -- the refusal that a program's fault tells
 abbrev pub Tells : JobFault → Refusal → Type 0

@@ -2,11 +2,12 @@
 ghost use Rattle.std.specs.Prelude.{◌≡◌, ◌^◌, ◌≤◌, [], IfOk};
 ghost use Rattle.job_loop.specs.Shown.{Shown};
 ghost use Rattle.job_loop.specs.Meaning.{Meaning};
-ghost use Rattle.pack_jobs.specs.PackEnds.{IsPackKind, IsPackJob, PackEnds, JobEnds, MeaningEnds, TellsEnding, seen_as, place_of, form_in, padding_in, most_in};
+ghost use Rattle.pack_jobs.specs.PackEnds.{IsPackKind, IsPackJob, PackEnds, JobEnds, MeaningEnds, TellsEnding, seen_as, place_of, form_in, padding_in, most_in, size_in};
 
 use crate::check::Check;
 use crate::merge::Merge;
 use crate::norm::Norm;
+use crate::pad::Pad;
 use crate::refusal::Refusal;
 use crate::split::Split;
 use crate::text::job_fault;
@@ -37,6 +38,13 @@ fn most_in(job: &Job) -> usize
     ensures some { 1 ≤ result }
 {
     usize::from(job.frames.unwrap_or(1).max(1))
+}
+
+// The size of a padded packet in bytes.
+fn size_in(job: &Job) -> u32
+    ensures { result ≡ size_in job.now }
+{
+    job.size.unwrap_or(0)
 }
 
 /// Does a job over packets: reads `source` up to `limit` bytes, from 1 to 2^40, and writes to `out`.
@@ -151,6 +159,10 @@ where
         JobKind::Split => {
             let split = Split::new(alloc, form, most_in(job));
             run_made(alloc, limit, records, split, source, out)
+        }
+        JobKind::Pad => {
+            let pad = Pad::new(alloc, form, size_in(job));
+            run_made(alloc, limit, records, pad, source, out)
         }
         _ => unreachable!(),
     }

@@ -18,6 +18,10 @@ pub enum Why {
     MixedKind,
     /// A packet and those of its group before it last more than 120 ms.
     TooLong,
+    /// A packet has no padded form of the size: its canonical form is longer.
+    TooSmall,
+    /// The padding of a packet's padded form would have 2^24 bytes or more.
+    PadLimit,
 }
 
 /// A refused input. Its text is made at the end of the run alone.

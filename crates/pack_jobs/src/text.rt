@@ -91,6 +91,8 @@ fn refusal_text(why: Why) -> ArrayString<64>
         Why::StoreCut => text_of("store cut"),
         Why::MixedKind => text_of("mixed kind"),
         Why::TooLong => text_of("too long"),
+        Why::TooSmall => text_of("too small"),
+        Why::PadLimit => text_of("pad limit"),
     }
 }
 
