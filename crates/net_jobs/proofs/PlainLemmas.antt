@@ -1,5 +1,5 @@
 -- A packet in its kept form is in its canonical form where it has no padding, and its first bytes tell how long it lasts.
-use Rattle.std.proofs.Common.{◌≡◌, ℕ, zero, suc, ◌+◌, ◌*◌, ◌<◌, ◌≤◌, Bool, true, false, nat_lt, if◌then◌else◌, List, [], ◌∷◌, ◌++◌, length, map, Option, None, Some, All, flat_map, append_assoc, refl, sym, ap, ◌∙◌, subst, ltb-false, arith}
+use Rattle.std.proofs.Common.{◌≡◌, ℕ, zero, suc, ◌*◌, ◌<◌, ◌≤◌, Bool, true, false, nat_lt, if◌then◌else◌, List, [], ◌∷◌, ◌++◌, length, map, Option, None, Some, All, flat_map, append_assoc, refl, sym, ap, ◌∙◌, subst, ltb-false, arith}
 use Rattle.std.specs.List.{concat}
 use Rattle.std.proofs.lemmas.List.{length-map}
 use Rattle.std.proofs.lemmas.List.Elements.{All-nil, All-cons}
@@ -112,7 +112,7 @@ all_short : (ns : List ℕ) → AreLengths ns → All (λ n. n ≤ max_frame) ns
 all_short [] each = All-nil (λ n. n ≤ max_frame)
 all_short (n ∷ ns) each = All-cons (λ m. m ≤ max_frame) n ns each.0 (all_short ns each.1)
 
-canonical-short : (v : PacketValue) → IsPacketValue v → length (canonical v) ≤ 61295
+pub canonical-short : (v : PacketValue) → IsPacketValue v → length (canonical v) ≤ 61295
 canonical-short v is =
     canonical-most v (map length v.frames) refl (omega (arith, is.some, length-map v.frames length))
     (omega (arith, is.most, length-map v.frames length)) (all_short (map length v.frames) (lengths-each v.frames is.each))

@@ -24,9 +24,13 @@ abbrev pub captured_behind : RtpFields → List (Option PacketValue) → List (O
 captured_behind first records [] = []
 captured_behind first records (r ∷ rs) = captured first records r ++ captured_behind first (records ++ r ∷ []) rs
 
+-- and of all records
+abbrev pub captured_records : RtpFields → List (Option PacketValue) → List DumpRecord
+captured_records first records = captured_behind first [] records
+
 -- the capture of all records: the line and the head, and then its records
 abbrev pub capture_of : RtpFields → List (Option PacketValue) → List ℕ
-capture_of first records = dump_head_bytes ++ flat_map dump_record_bytes (captured_behind first [] records)
+capture_of first records = dump_head_bytes ++ flat_map dump_record_bytes (captured_records first records)
 
 -- the bytes of the capture's record of a packet, and of one record, behind these records
 unfoldable pub packet_text : RtpFields → List (Option PacketValue) → PacketValue → List ℕ

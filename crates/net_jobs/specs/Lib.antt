@@ -3,3 +3,4 @@ pub mod Plain
 pub mod Send
 pub mod SendStands
 pub mod NetEnds
+pub mod Given
