@@ -61,3 +61,20 @@ fn stamps_step_by_durations(rt: HostRuntime) -> Result<(), Fail> {
     assert_eq!(rt; (sender.sent(), sender.elapsed()), (9, 8040));
     Ok(())
 }
+
+// Canonical forms sent from where they lie: of 20 ms, then a loss, and 60 ms in three frames.
+#[test]
+fn a_canonical_form_is_sent_as_its_packet(rt: HostRuntime) -> Result<(), Fail> {
+    let mut sender = Sender::new(65535, 0, 1, 96);
+    let mut out = Vec::new(rt.alloc());
+    sender.send_form(&[0xF8, 0xAA], 960, &mut out)?;
+    sender.skip();
+    sender.send_form(&[0xFB, 3, 7, 7, 7], 2880, &mut out)?;
+    let expected = [
+        0x80, 96, 0xFF, 0xFF, 0, 0, 0, 0, 0, 0, 0, 1, 0xF8, 0xAA, // 0
+        0x80, 96, 0, 1, 0, 0, 7, 0x80, 0, 0, 0, 1, 0xFB, 3, 7, 7, 7, // 1920
+    ];
+    assert_eq!(rt; out.as_slice(), &expected[..]);
+    assert_eq!(rt; (sender.sent(), sender.elapsed()), (3, 4800));
+    Ok(())
+}
