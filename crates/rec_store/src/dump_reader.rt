@@ -95,6 +95,13 @@ impl DumpReader {
         }
     }
 
+    /// Whether the opening was read: a start answered Ok.
+    pub fn started(&self) -> bool
+        ensures { result ≡ self.now.started }
+    {
+        self.started
+    }
+
     /// Whether more may be asked: no call answered a fault, a failed read or the limit.
     pub fn live(&self) -> bool
         ensures { result ≡ self.now.live }

@@ -10,6 +10,8 @@ mod dump_item;
 mod dump_line;
 mod dump_opening;
 mod dump_reader;
+#[cfg(test)]
+mod dump_tests;
 pub mod laws;
 mod numbers;
 mod record;

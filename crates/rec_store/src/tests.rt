@@ -65,6 +65,32 @@ fn records_are_read_up_to_their_end(rt: HostRuntime) -> Result<(), Fail> {
     Ok(())
 }
 
+// With one byte a read, the read of that number fails. It is made only where the bytes before it decide nothing: not
+// behind a whole record, or the end.
+#[test]
+fn no_read_is_made_for_nothing(rt: HostRuntime) -> Result<(), Fail> {
+    let alloc = rt.alloc();
+    let cut_at = |place| Some(StoreStop::Fault(StoreFault::StoreCut(place)));
+    let failed = Some(StoreStop::Read);
+    let rows = [
+        (&CUT[..7], 8, failed, 0),
+        (&CUT[..7], 9, cut_at(7), 0),
+        (&CUT[..], 11, failed, 10),
+        (&CUT[..], 12, cut_at(10), 10),
+        (&TWO[..], 11, failed, 10),
+        (&TWO[..], 19, failed, 18),
+        (&TWO[..], 20, None, 18),
+    ];
+    for (bytes, read, end, count) in rows {
+        let mut input = Reader::new(alloc, 100)?;
+        let mut source = MemorySource::new(alloc, bytes, 1, &[read])?;
+        let mut taken = Vec::new(alloc);
+        assert_eq!(rt; take_store(&mut input, &mut source, &mut taken)?, end);
+        assert_eq!(rt; taken.len(), count);
+    }
+    Ok(())
+}
+
 #[test]
 fn a_failed_read_ends_the_store(rt: HostRuntime) -> Result<(), Fail> {
     let alloc = rt.alloc();
