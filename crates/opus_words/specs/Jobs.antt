@@ -122,7 +122,7 @@ is_built_of Recv job = false
 is_built_of Replay job = false
 is_built_of Sdp job = false
 is_built_of Make job = true
-is_built_of Trial job = false
+is_built_of Trial job = true
 
 -- the program does this job
 abbrev pub is_built : Job → Bool

@@ -60,7 +60,7 @@ impl Job {
             JobKind::Replay => false,
             JobKind::Sdp => false,
             JobKind::Make => true,
-            JobKind::Trial => false,
+            JobKind::Trial => true,
         }
     }
 

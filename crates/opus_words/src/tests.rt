@@ -198,7 +198,6 @@ extract --streams 255 --stream 254 = NotBuilt
 recv --pt 0 --ssrc 0 = NotBuilt
 replay = NotBuilt
 sdp = NotBuilt
-trial --count 1000000 = NotBuilt
 ";
 
 #[test]

@@ -9,3 +9,8 @@ pub mod TextsLemmas
 pub mod PartsLemmas
 pub mod HeadLemmas
 pub mod HeadLaws
+pub mod PlanLemmas
+pub mod MadePacketLemmas
+pub mod TakeLemmas
+pub mod TotalsLemmas
+pub mod TrialLemmas

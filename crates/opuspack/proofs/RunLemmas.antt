@@ -11,7 +11,7 @@ use Rattle.opus_words.specs.declared.fault.UsageKind.{UsageKind}
 use Rattle.opus_words.specs.declared.form.Form.{Form}
 use Rattle.opus_words.specs.declared.job.Job.{Job}
 use Rattle.opus_words.specs.declared.kind.JobKind.{JobKind}
-use Rattle.opus_words.specs.declared.kind.JobKind.TheVariants.{Norm, Check, Merge, Split, Pad, Head, Send, Make}
+use Rattle.opus_words.specs.declared.kind.JobKind.TheVariants.{Norm, Check, Merge, Split, Pad, Head, Send, Make, Trial}
 use Rattle.opus_words.specs.declared.option.Opt.TheVariants as opt
 use Rattle.pack_jobs.specs.PackEnds.{IsPackKind, IsPackJob, PackEnds, form_in, padding_in, settles_in, ends_in}
 use Rattle.pack_jobs.proofs.PackLemmas.{unstarted_kind, none_settled}
@@ -19,6 +19,7 @@ use Rattle.net_jobs.specs.NetEnds.{IsNetKind, IsNetJob}
 use Rattle.net_jobs.proofs.NetLemmas.{unstarted_net}
 use Rattle.opuspack.specs.declared.finish.Finish.TheVariants.{Ended}
 use Rattle.opuspack.specs.Make.{made_store}
+use Rattle.opuspack.specs.Trial.{trial_text}
 use Rattle.opuspack.specs.WritesText.{WritesOnly}
 use Rattle.opuspack.proofs.HeadLemmas.{head_unstarted}
 use Rattle.opuspack.specs.Run.{Meant, KindEnds, seed_in, count_in}
@@ -28,6 +29,7 @@ pub record IsOther (kind : JobKind) : Type 0 where
   pub head : kind ≢ Head
   pub send : kind ≢ Send
   pub make : kind ≢ Make
+  pub trial : kind ≢ Trial
 
 -- a job that is built and that no other call does is over packets
 is_pack : (kind : JobKind) (job : Job) → is_built_of kind job ≡ true → IsOther kind → IsPackKind kind
@@ -39,6 +41,7 @@ is_pack Pad job built other = tt
 is_pack Head job built other = other.head refl
 is_pack Send job built other = other.send refl
 is_pack Make job built other = other.make refl
+is_pack Trial job built other = other.trial refl
 is_pack kind job built other = absurd (cc)
 
 some_and : {T : Type 0} → (o : Option T) (P : T → Type 0) → IsSomeAnd o P → IsSome o
@@ -111,6 +114,8 @@ unstarted : (kind : JobKind) (job : Job) (limit : ℕ) (outside : Outside) (Unre
 unstarted Head job limit outside Unread Unwritten unread same built is = head_unstarted limit outside
 unstarted Make job limit outside Unread Unwritten unread same built is =
     unwritten (made_store (seed_in job) (count_in job)) outside Unread Unwritten unread same
+unstarted Trial job limit outside Unread Unwritten unread same built is =
+    unwritten (trial_text (seed_in job) (count_in job)) outside Unread Unwritten unread same
 unstarted Norm job limit outside Unread Unwritten unread same built is =
     pack_unstarted job limit outside Unread unread (subst IsPackKind (sym is) tt)
 unstarted Check job limit outside Unread Unwritten unread same built is =

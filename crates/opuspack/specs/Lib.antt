@@ -11,3 +11,7 @@ pub mod WritesText
 pub mod Made
 pub mod Make
 pub mod RunMade
+pub mod MadePackets
+pub mod Totals
+pub mod Trial
+pub mod TrialStands

@@ -11,6 +11,7 @@ use Rattle.pack_jobs.specs.PackEnds.{PackEnds}
 use Rattle.net_jobs.specs.NetEnds.{NetEnds}
 use Rattle.opuspack.specs.HeadEnds.{HeadEnds}
 use Rattle.opuspack.specs.Make.{made_store}
+use Rattle.opuspack.specs.Trial.{trial_text}
 use Rattle.opuspack.specs.WritesText.{WritesOnly}
 use Rattle.opuspack.specs.declared.finish.Finish.{Finish}
 use Rattle.opuspack.specs.declared.finish.Finish.TheVariants.{Usage, Ended}
@@ -29,6 +30,8 @@ KindEnds kinds.Head job limit before after Unread Unwritten ending = HeadEnds li
 KindEnds kinds.Send job limit before after Unread Unwritten ending = NetEnds job limit before after Unread ending
 KindEnds kinds.Make job limit before after Unread Unwritten ending =
     WritesOnly (made_store (seed_in job) (count_in job)) before after Unread Unwritten ending
+KindEnds kinds.Trial job limit before after Unread Unwritten ending =
+    WritesOnly (trial_text (seed_in job) (count_in job)) before after Unread Unwritten ending
 KindEnds kind job limit before after Unread Unwritten ending = PackEnds job limit before after Unread ending
 
 -- Where the words stand for a job, it ended as the job's meaning says: these were the source and the sink, and these

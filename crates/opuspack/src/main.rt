@@ -16,6 +16,8 @@ mod status;
 #[cfg(test)]
 mod tests;
 mod texts;
+mod totals;
+mod trial;
 mod whole;
 
 use crate::arguments::words_of;

@@ -11,6 +11,7 @@ use crate::finish::Finish;
 use crate::head::head_job;
 use crate::make::make_job;
 use crate::status::Status;
+use crate::trial::trial_job;
 use net_jobs::net_job;
 use opus_io::{Sink, Source};
 use opus_words::{Ending, Job, JobKind, WordsFault, job_of};
@@ -102,6 +103,7 @@ fn do_kind<S: Source, O: Sink>(
         JobKind::Head => head_job(alloc, limit, source, out),
         JobKind::Send => net_job(alloc, job, limit, source, out),
         JobKind::Make => make_job(alloc, seed_in(job), count_in(job), out),
+        JobKind::Trial => trial_job(alloc, seed_in(job), count_in(job), out),
         _ => pack_job(alloc, job, limit, source, out),
     }
 }

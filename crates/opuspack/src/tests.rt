@@ -17,6 +17,7 @@ mod outside;
 mod pad;
 mod send;
 mod split;
+mod trial;
 mod words;
 
 /// An input, and the output of a run that ends well.

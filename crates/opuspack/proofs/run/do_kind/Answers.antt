@@ -10,4 +10,5 @@ pack_job-requires-clause-job g c =
       head = c.in_default.not-Head;
       send = c.in_default.not-Send;
       make = c.in_default.not-Make;
+      trial = c.in_default.not-Trial;
     })
