@@ -18,6 +18,10 @@ JOBS = [
     ["norm", "--form", "demo", "--padding", "keep"],
     ["check", "--form", "demo"],
     ["norm", "--form", "self"],
+    ["merge", "--form", "demo", "--group", "2"],
+    ["split", "--form", "demo", "--frames", "2"],
+    ["pad", "--form", "demo", "--size", "300"],
+    ["send"],
 ]
 
 
@@ -47,6 +51,10 @@ GOALS = {
     ("norm", "5 to 60 bytes"): 290,
     ("norm", "48 spelled frames"): 1_750,
     ("check", "180 to 220 bytes"): 270,
+    ("merge", "180 to 220 bytes"): 450,
+    ("split", "180 to 220 bytes"): 450,
+    ("pad", "180 to 220 bytes"): 450,
+    ("send", "180 to 220 bytes"): 500,
 }
 
 
@@ -225,11 +233,11 @@ def main():
             return
         for words in JOBS:
             for name, payload in STORES.items():
-                if "self" in words and payload is spelled:
+                if payload is spelled and (words[0] in ("merge", "pad") or "self" in words):
                     continue
                 packet, byte = costs(words, payload, folder)
                 goal = GOALS.get((words[0], name))
-                said = f" (goal {goal})" if goal and len(words) == 3 else ""
+                said = f" (goal {goal})" if goal and "keep" not in words else ""
                 print(f"{' '.join(words)}, {name}: {packet:.0f} instructions a packet{said}, {byte:.2f} a payload byte")
         program = feed_program(folder)
         for name, (packet, goal) in FEED_GOALS.items():
