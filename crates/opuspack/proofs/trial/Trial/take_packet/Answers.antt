@@ -27,8 +27,13 @@ returns-clause-counted g c =
     let body = c.body-body.result.now in
     let now = c.add_packet.ensures in
     let parts : c.sum_of.result + c.sum_of-2.result ≡ sum (header ++ body) =
-    omega (arith, c.sum_of.ensures.sum, c.sum_of-2.ensures.sum, ap sum (c.as_slice.ensures.value ∙ sym c.as_slice-2.ensures.value),
-    sum_by-append (λ (n : ℕ). n) header body) in
+    omega (
+      arith,
+      c.sum_of.ensures.sum,
+      c.sum_of-2.ensures.sum,
+      ap sum (c.as_slice.ensures.value ∙ sym c.as_slice-2.ensures.value),
+      sum_by-append (λ (n : ℕ). n) header body,
+    ) in
     let sum_is : c.sum_of.result + c.sum_of-2.result ≡ sum (canonical c.args.packet.now.value) = parts ∙ ap sum (joined g c) in
     record {
       records = now.records;
