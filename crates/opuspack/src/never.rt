@@ -1,5 +1,5 @@
 //! What never comes.
 
 /// The cut of an input that can't be cut, and the refusal of a job that refuses nothing.
-#[derive(Clone, Copy, Debug, PartialEq, Eq)]
+#[derive(Clone, Copy)]
 pub(crate) enum Never {}
