@@ -3,15 +3,16 @@ ghost use Rattle.std.specs.Prelude.{◌≡◌, ◌<◌, ◌≤◌, ◌^◌, [], 
 ghost use Rattle.opus_feed.specs.declared.padding.Padding.TheVariants.{Drop};
 ghost use Rattle.rtp_ends.specs.Sends.{SenderStands};
 ghost use Rattle.pack_records.specs.Demo.{DemoSettles, DemoEnds};
-ghost use Rattle.pack_jobs.specs.PackEnds.{MeaningEnds, seen_as};
+ghost use Rattle.job_ends.specs.Ends.{seen_as};
+ghost use Rattle.pack_jobs.specs.PackEnds.{MeaningEnds};
 ghost use Rattle.net_jobs.specs.Send.{send};
 ghost use Rattle.net_jobs.specs.NetEnds.{IsNetJob, NetEnds, first_in};
 
 use crate::send::SendJob;
+use job_ends::run_made;
 use opus_feed::Padding;
 use opus_io::{NoMemory, Sink, Source};
 use opus_words::{Ending, Job, JobKind};
-use pack_jobs::run_made;
 use pack_records::DemoForm;
 use rtp_ends::Sender;
 use std::alloc::Global;

@@ -1,10 +1,8 @@
 -- The lines of a head; and a run that found no memory before it began.
-use Rattle.std.proofs.Common.{◌≡◌, ℕ, ◌≤◌, List, [], ◌∷◌, ◌++◌, codes, Option, None, Some, IfSome, inl, refl, sym, ap, ◌∙◌, subst, arith}
-use Rattle.std.proofs.KnownBytes.{Consumes-nil}
+use Rattle.std.proofs.Common.{◌≡◌, ℕ, List, [], ◌∷◌, ◌++◌, codes, refl, sym, ap, ◌∙◌, subst, arith}
 use Rattle.opus_io.specs.Outside.{Outside}
 use Rattle.job_loop.specs.Meaning.{goes}
-use Rattle.job_loop.specs.declared.ending.Ending.TheVariants as endings
-use Rattle.job_loop.proofs.InnerLemmas.{unstarted}
+use Rattle.job_ends.proofs.EndsLemmas.{unstarted_ends}
 use Rattle.opus_head.specs.HeadValue.{HeadValue}
 use Rattle.opus_head.specs.HeadBytes.{IsOpusHead}
 use Rattle.opus_head.specs.HeadFault.{head_fault}
@@ -16,7 +14,7 @@ use Rattle.opus_words.specs.declared.ending.Ending.TheVariants.{NoMemory}
 use Rattle.opuspack.specs.Texts.{all_texts}
 use Rattle.opuspack.specs.HeadLines.{factor_text, matrix_line, head_lines}
 use Rattle.opuspack.specs.Whole.{WholeSettles, WholeEnds}
-use Rattle.opuspack.specs.Head.{head, head_step}
+use Rattle.opuspack.specs.Head.{head, head_step, TellsHead}
 use Rattle.opuspack.specs.HeadEnds.{place_of, HeadEnds}
 
 -- the factors of a table
@@ -34,20 +32,7 @@ pub head_told : (h : HeadValue) (bytes : List ℕ) → IsOpusHead h bytes
 head_told h bytes is =
     ap (head_step bytes) (spelled-passes h bytes is) ∙ ap (λ v. goes (head_lines v) tt) (spelled-read h bytes is)
 
-known : (left : Option (List ℕ)) (P : List ℕ → Type 0) → ((x : List ℕ) → P x) → IfSome left P
-known None P all = tt
-known (Some x) P all = all x
-
 pub head_unstarted : (limit : ℕ) (outside : Outside) → HeadEnds limit outside outside NoMemory
-head_unstarted limit outside = (
-  endings.NoMemory,
-  tt,
-  record {
-    ran = unstarted head WholeSettles WholeEnds place_of limit outside.left outside.contents
-        (record { are_bytes = λ i. omega arith; records_are = refl });
-    judged = known outside.left _ (λ x rs end reads. tt);
-    taken = ([], omega arith, Consumes-nil outside.left);
-    read = refl;
-    cause = record { written = refl; later = omega arith; wanted = λ is. inl tt };
-  },
-)
+head_unstarted limit outside =
+    unstarted_ends TellsHead place_of head WholeSettles WholeEnds limit outside (Unit {0}) tt
+    (record { are_bytes = λ i. omega arith; records_are = refl })

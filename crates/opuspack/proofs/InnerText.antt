@@ -1,5 +1,5 @@
 -- What a run over a gathered sink says of the sink inside, and how the program ends then.
-use Rattle.std.proofs.Common.{◌≡◌, ◌⊎◌, ℕ, ◌≤◌, Bool, true, false, List, [], ◌++◌, Option, None, Some, Result, Ok, Err, OnOk, OnErr, take, length, inl, inr, refl, sym, ap, ◌∙◌, subst, append-nil, append_assoc, length-append, length-take, arith}
+use Rattle.std.proofs.Common.{◌≡◌, ◌⊎◌, ℕ, ◌≤◌, List, [], ◌++◌, Option, None, Some, Result, Ok, Err, OnOk, OnErr, take, length, inl, inr, refl, sym, ap, ◌∙◌, subst, append-nil, append_assoc, length-append, length-take, arith}
 use Rattle.std.proofs.lemmas.List.{take-take, append_cancel_left}
 use Rattle.std.proofs.Math.Seq.{take-append_seam}
 use Rattle.std.specs.Io.KnownBytes.{Appends, append_known}

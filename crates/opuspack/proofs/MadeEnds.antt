@@ -1,9 +1,9 @@
 -- The end of a run over made records.
 use Rattle.std.proofs.Common.{◌≡◌, ℕ, List, ◌++◌, Option, sym, ap, ◌∙◌, subst}
 use Rattle.std.specs.Io.KnownBytes.{Appends, Keeps}
-use Rattle.std.proofs.KnownBytes.{Appends-trans, Appends-kept}
+use Rattle.std.proofs.KnownBytes.{Appends-trans}
 use Rattle.job_loop.specs.Shown.{Shown}
-use Rattle.job_loop.specs.Meaning.{Meaning, step_text, run_text, adds, runs, opened, closes, outcome}
+use Rattle.job_loop.specs.Meaning.{Meaning, step_text, run_text, runs, opened, closes, outcome}
 use Rattle.job_loop.specs.Telling.{Front, Goes, Stops}
 use Rattle.job_loop.specs.declared.input_end.InputEnd.TheVariants.{Closed}
 use Rattle.job_loop.specs.declared.job.JobStop.{JobStop}

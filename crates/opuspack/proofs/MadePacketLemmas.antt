@@ -1,5 +1,5 @@
 -- The packets of a seed.
-use Rattle.std.proofs.Common.{◌≡◌, ℕ, ◌+◌, Bool, true, false, List, [], ◌++◌, length, Option, None, Some, refl, ap, subst, length-append, arith}
+use Rattle.std.proofs.Common.{◌≡◌, ℕ, Bool, true, false, List, [], ◌++◌, length, Option, None, Some, refl, ap, subst, length-append, arith}
 use Rattle.std.specs.List.{concat}
 use Rattle.opus_packet.specs.declared.shape.Shape.{Shape}
 use Rattle.opus_packet.specs.Value.{PacketValue}
@@ -12,7 +12,7 @@ use Rattle.opus_make.specs.Written.{padding_of}
 use Rattle.opus_make.specs.Generated.{is_lost_at, record_at, state_before, record_bytes}
 use Rattle.opus_make.proofs.PlanLemmas.{plan_at-limits}
 use Rattle.opuspack.specs.Made.{made_bytes}
-use Rattle.opuspack.specs.MadePackets.{plan_packet, packet_at, made_packet}
+use Rattle.opuspack.specs.MadePackets.{packet_at, made_packet}
 use Rattle.opuspack.proofs.PlanLemmas.{plan_shape, frames-bytes, packet-is}
 
 -- bytes are a packet, whose frames are bytes too

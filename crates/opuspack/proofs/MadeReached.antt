@@ -1,11 +1,10 @@
 -- How far a run over made records has come.
-use Rattle.std.proofs.Common.{◌≡◌, ℕ, ◌+◌, ◌<◌, ◌≤◌, List, [], ◌∷◌, ◌++◌, Option, take, drop, map, refl, sym, ap, ◌∙◌, subst, append_assoc, append-nil, take-append-drop, arith}
-use Rattle.std.specs.List.{range_with_len}
+use Rattle.std.proofs.Common.{◌≡◌, ℕ, ◌+◌, ◌<◌, ◌≤◌, List, [], ◌∷◌, ◌++◌, Option, drop, refl, sym, ap, ◌∙◌, subst, append_assoc, append-nil, take-append-drop, arith}
 use Rattle.std.specs.Io.KnownBytes.{Appends}
 use Rattle.std.proofs.KnownBytes.{Appends-nil, Appends-trans}
 use Rattle.std.proofs.lemmas.List.FromFn.{map-range_with_len_more, take-map-range_with_len}
 use Rattle.job_loop.specs.Shown.{Shown}
-use Rattle.job_loop.specs.Meaning.{Meaning, Step, Run, going, broke, step_text, run_text, adds, onward, runs, opened}
+use Rattle.job_loop.specs.Meaning.{Meaning, Step, Run, going, broke, step_text, run_text, adds, runs, opened}
 use Rattle.job_loop.specs.Telling.{Front, Goes, Stops}
 use Rattle.job_loop.specs.declared.job.JobStop.{JobStop}
 use Rattle.job_loop.specs.declared.job.JobStop.TheVariants.{Refused, Sink}

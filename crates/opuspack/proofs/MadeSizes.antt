@@ -1,12 +1,12 @@
 -- How many bytes a made record has.
-use Rattle.std.proofs.Common.{◌≡◌, ℕ, ◌+◌, ◌-◌, ◌*◌, ◌^◌, ◌<◌, ◌≤◌, Bool, true, false, ◌==◌, nat_lt, if◌then◌else◌, List, [], ◌∷◌, ◌++◌, length, take, replicate, flat_map, sum, All, Result, Ok, Err, OnErr, IsOk, refl, ap, ◌∙◌, subst, length-append, length-take, ltb-true, arith}
-use Rattle.std.proofs.lemmas.List.{length-replicate, length-take-le}
+use Rattle.std.proofs.Common.{◌≡◌, ℕ, ◌+◌, ◌-◌, ◌*◌, ◌^◌, ◌<◌, ◌≤◌, Bool, true, false, ◌==◌, nat_lt, if◌then◌else◌, List, [], ◌∷◌, length, take, flat_map, sum, Result, Ok, Err, OnErr, IsOk, refl, subst, length-append, length-take, ltb-true, arith}
+use Rattle.std.proofs.lemmas.List.{length-replicate}
 use Rattle.std.proofs.lemmas.List.Sums.{sum_by-le}
 use Rattle.opus_flen.specs.FrameLength.{length_bytes}
 use Rattle.opus_flen.proofs.PaddingLemmas.{length-padding_bytes-le}
 use Rattle.opus_packet.proofs.LensLemmas.{spelled_most}
 use Rattle.opus_make.specs.Draws.{next_state}
-use Rattle.opus_make.specs.Plan.{FormValue, PlanValue, IsPlan, has_lengths, plan_at}
+use Rattle.opus_make.specs.Plan.{PlanValue, IsPlan, has_lengths, plan_at}
 use Rattle.opus_make.specs.Written.{padding_length, count_and_padding, given_lengths, header_of, padding_of, packet_of}
 use Rattle.opus_make.specs.Generated.{Generated, lost, packet, is_lost_at, record_at, state_before, generated, Gives, record_bytes}
 use Rattle.opus_make.specs.declared.made.Made.{Made}

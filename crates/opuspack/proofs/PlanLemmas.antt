@@ -1,5 +1,5 @@
 -- A packet that was drawn is one by the standard (RFC 6716, 3.2).
-use Rattle.std.proofs.Common.{◌≡◌, ◌≢◌, ℕ, zero, suc, ◌+◌, ◌-◌, ◌*◌, ◌%◌, ◌^◌, ◌<◌, ◌≤◌, Bool, true, false, ◌==◌, ◌||◌, nat_lt, if◌then◌else◌, List, [], ◌∷◌, ◌++◌, length, take, map, replicate, flat_map, All, refl, sym, ap, ◌∙◌, subst, length-take, arith}
+use Rattle.std.proofs.Common.{◌≡◌, ℕ, zero, suc, ◌+◌, ◌-◌, ◌*◌, ◌%◌, ◌<◌, ◌≤◌, Bool, true, false, ◌==◌, ◌||◌, if◌then◌else◌, List, [], ◌∷◌, ◌++◌, length, take, map, replicate, flat_map, All, refl, sym, ap, ◌∙◌, subst, length-take, arith}
 use Rattle.std.specs.List.{AllByRecursion, concat, range_with_len}
 use Rattle.std.proofs.lemmas.List.{length-replicate}
 use Rattle.std.proofs.lemmas.List.Elements.{All-head, All-tail}
@@ -8,9 +8,9 @@ use Rattle.opus_toc.specs.Toc.{toc_byte}
 use Rattle.opus_toc.specs.Configuration.{samples_of}
 use Rattle.opus_flen.specs.FrameLength.{length_bytes}
 use Rattle.opus_packet.specs.declared.shape.Shape.{Shape}
-use Rattle.opus_packet.specs.Value.{PacketValue, IsPacketValue, IsFrame}
+use Rattle.opus_packet.specs.Value.{IsFrame}
 use Rattle.opus_packet.specs.Header.{Sizes, equal, given, header_bytes, frame_count, given_lengths, count_and_padding, padding_data}
-use Rattle.opus_packet.specs.PacketGrammar.{HaveOneLength, SuitsCode, sizes_for, header_in, header_for, IsPacket}
+use Rattle.opus_packet.specs.PacketGrammar.{HaveOneLength, SuitsCode, header_in, header_for, IsPacket}
 use Rattle.opus_packet.specs.PacketPrefix.{AreBytes}
 use Rattle.opus_packet.proofs.BytesLemmas.{AreBytes-append}
 use Rattle.opus_make.specs.Plan.{FormValue, PlanValue, IsForm, IsPlan, has_lengths}

@@ -106,8 +106,8 @@ pack_unstarted : (job : Job) (limit : ℕ) (outside : Outside) (Unread : Type 0)
 pack_unstarted job limit outside Unread unread pack =
     let form = form_in job in
     let padding = padding_in job in
-    unstarted_kind job.kind pack job (settles_in form padding) (ends_in form padding) limit outside.left outside.reads
-    outside.contents outside.writes outside.refusals Unread unread (none_settled form padding)
+    unstarted_kind job.kind pack job (settles_in form padding) (ends_in form padding) limit outside Unread unread
+    (none_settled form padding)
 
 unstarted : (kind : JobKind) (job : Job) (limit : ℕ) (outside : Outside) (Unread Unwritten : Type 0) → Unread → Unwritten
     → is_built_of kind job ≡ true → job.kind ≡ kind → KindEnds kind job limit outside outside Unread Unwritten NoMemory
@@ -127,8 +127,7 @@ unstarted Pad job limit outside Unread Unwritten unread same built is =
 unstarted Split job limit outside Unread Unwritten unread same built is =
     pack_unstarted job limit outside Unread unread (subst IsPackKind (sym is) tt)
 unstarted Send job limit outside Unread Unwritten unread same built is =
-    unstarted_net job.kind (subst IsNetKind (sym is) tt) job limit outside.left outside.reads outside.contents outside.writes
-    outside.refusals Unread unread
+    unstarted_net job.kind (subst IsNetKind (sym is) tt) job limit outside Unread unread
 unstarted kind job limit outside Unread Unwritten unread same built is = absurd (cc)
 
 pub meant_no_memory : {S O : Type 0} (said : Result Job UsageKind) (limit : ℕ) (seen : S → O → Outside) (source : S)

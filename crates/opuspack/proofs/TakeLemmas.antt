@@ -1,12 +1,12 @@
 -- What a made record is, by its bytes.
-use Rattle.std.proofs.Common.{◌≡◌, ℕ, List, [], ◌∷◌, length, Option, None, Some, refl, sym, ap, ◌∙◌, subst, arith}
+use Rattle.std.proofs.Common.{◌≡◌, ℕ, List, [], ◌∷◌, length, None, Some, refl, sym, ap, ◌∙◌, subst, arith}
 use Rattle.opus_packet.specs.declared.shape.Shape.{Shape}
 use Rattle.opus_packet.specs.Value.{PacketValue}
 use Rattle.opus_packet.specs.PacketGrammar.{Spells}
 use Rattle.opuspack.specs.declared.made.MadeRecord.{MadeRecord}
 use Rattle.opuspack.specs.Made.{IsMade, made_bytes}
 use Rattle.opuspack.specs.Totals.{packet_in}
-use Rattle.opuspack.proofs.MadePacketLemmas.{IsPacketOf, made_packet-is, no_bytes-lost, bytes-packet}
+use Rattle.opuspack.proofs.MadePacketLemmas.{made_packet-is, no_bytes-lost, bytes-packet}
 
 no_length : (bytes : List ℕ) → length bytes ≡ 0 → bytes ≡ []
 no_length [] none = refl

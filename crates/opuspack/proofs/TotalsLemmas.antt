@@ -1,6 +1,6 @@
 -- Totals of records, one after another, and how large they can get.
-use Rattle.std.proofs.Common.{◌≡◌, ℕ, ◌+◌, ◌-◌, ◌*◌, ◌^◌, ◌<◌, ◌≤◌, List, [], ◌∷◌, ◌++◌, length, sum, sum_by, min, All, Option, None, Some, refl, sym, ap, ◌∙◌, subst, length-append, arith}
-use Rattle.std.proofs.lemmas.List.Sums.{sum_by-append, sum_by-cons, sum_by-le}
+use Rattle.std.proofs.Common.{◌≡◌, ℕ, ◌+◌, List, [], ◌∷◌, ◌++◌, length, sum, sum_by, None, Some, ap, ◌∙◌, length-append, arith}
+use Rattle.std.proofs.lemmas.List.Sums.{sum_by-append, sum_by-cons}
 use Rattle.opus_packet.specs.Value.{PacketValue, duration_of}
 use Rattle.opus_packet.specs.Canonical.{canonical}
 use Rattle.pack_jobs.specs.Refusal.{told}

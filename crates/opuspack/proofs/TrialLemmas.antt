@@ -1,13 +1,13 @@
 -- What the job trial writes.
-use Rattle.std.proofs.Common.{◌≡◌, ℕ, ◌+◌, ◌*◌, ◌^◌, ◌<◌, ◌≤◌, List, [], ◌∷◌, ◌++◌, length, sum, map, Option, None, Some, All, refl, sym, ap, ◌∙◌, subst, append-nil, append_assoc, arith}
-use Rattle.std.specs.List.{AllByRecursion, concat, range_with_len}
+use Rattle.std.proofs.Common.{◌≡◌, ℕ, ◌*◌, ◌^◌, ◌<◌, ◌≤◌, List, [], ◌∷◌, ◌++◌, length, sum, map, Option, None, Some, refl, sym, ap, ◌∙◌, subst, append-nil, append_assoc, arith}
+use Rattle.std.specs.List.{range_with_len}
 use Rattle.std.proofs.lemmas.Simd.{map-map}
 use Rattle.std.proofs.lemmas.List.FromFn.{length-map-range_with_len}
 use Rattle.std.proofs.lemmas.List.Sums.{sum_by-cons, sum_by-le}
 use Rattle.job_loop.specs.Shown.{Shown}
-use Rattle.job_loop.specs.Meaning.{going, adds, runs, run_text, closes, outcome}
+use Rattle.job_loop.specs.Meaning.{going, runs, run_text, closes, outcome}
 use Rattle.job_loop.specs.declared.input_end.InputEnd.TheVariants.{Closed}
-use Rattle.opus_packet.specs.Value.{PacketValue, IsPacketValue}
+use Rattle.opus_packet.specs.Value.{PacketValue}
 use Rattle.opus_packet.specs.PacketPrefix.{AreBytes}
 use Rattle.opus_packet.specs.Canonical.{canonical}
 use Rattle.opus_packet.proofs.SpellingLemmas.{kept_form-nil}
@@ -15,9 +15,7 @@ use Rattle.opus_feed.specs.declared.framing.Framing.TheVariants.{Whole}
 use Rattle.pack_jobs.proofs.FormBytes.{form-are}
 use Rattle.pack_jobs.proofs.FormSizes.{form_sizes}
 use Rattle.opuspack.specs.declared.made.MadeRecord.{MadeRecord}
-use Rattle.opuspack.specs.declared.totals.Totals.{Totals}
 use Rattle.opuspack.specs.Made.{made_bytes, made_shown, made_records}
-use Rattle.opuspack.specs.MadePackets.{made_packet}
 use Rattle.opuspack.specs.Totals.{packet_in, lost_in, frames_in, samples_in, normal_form, totals_of, told_totals, totals_line}
 use Rattle.opuspack.specs.Trial.{normal_record, normal_store, numbered, trial, trial_text}
 use Rattle.opuspack.proofs.MadeSizes.{made_bytes-most}

@@ -1,5 +1,5 @@
 -- What is kept of an input that is one record.
-use Rattle.std.proofs.Common.{◌≡◌, ◌⊎◌, ℕ, ◌+◌, ◌-◌, ◌<◌, ◌≤◌, List, [], ◌++◌, length, take, slice_index, min, inl, inr, ⊎_elim, refl, sym, ap, ◌∙◌, subst, append-nil, length-append, length-take, arith}
+use Rattle.std.proofs.Common.{◌≡◌, ◌⊎◌, ℕ, ◌-◌, ◌<◌, ◌≤◌, List, ◌++◌, length, take, min, inl, inr, ⊎_elim, refl, sym, ap, ◌∙◌, subst, append-nil, length-take, arith}
 use Rattle.std.proofs.lemmas.Bool.{cases_lt}
 use Rattle.std.proofs.lemmas.List.{take_all, take_min, take-append-le, get_or_append_left}
 use Rattle.std.proofs.Math.Seq.{take-length, take-append-add, get_or-append_right}

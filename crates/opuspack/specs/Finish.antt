@@ -1,5 +1,5 @@
 -- How a run ends: the exit status and the note.
-use Rattle.std.specs.Prelude.{◌≡◌, ℕ, ◌⊎◌, List, ◌++◌, take, codes}
+use Rattle.std.specs.Prelude.{ℕ, ◌⊎◌, List, ◌++◌, take, codes}
 use Rattle.std.specs.declared.option.Option.{Option}
 use Rattle.std.specs.Io.KnownBytes.{Appends}
 use Rattle.opus_io.specs.Cause.{Rose}

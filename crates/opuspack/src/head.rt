@@ -4,7 +4,7 @@ ghost use Rattle.std.specs.Io.KnownBytes.{Appends};
 ghost use Rattle.opus_io.specs.Sink.{SinkCause, Onward};
 ghost use Rattle.job_loop.specs.Telling.{Front};
 ghost use Rattle.opuspack.specs.Head.{head, head_fault_text, TellsHead};
-ghost use Rattle.opuspack.specs.HeadEnds.{HeadEnds, TellsEnding};
+ghost use Rattle.opuspack.specs.HeadEnds.{HeadEnds};
 ghost use Rattle.opuspack.specs.HeadLines.{head_lines, matrix_line};
 
 use crate::head_texts::{Channels, Factors, field_lines};
@@ -12,7 +12,8 @@ use crate::never::Never;
 use crate::texts::write_texts;
 use crate::whole::{WholeForm, WholeInput};
 use arrayvec::ArrayString;
-use job_loop::{Ending as LoopEnding, InputEnd, JobStop, Lent, RecordJob, run_job};
+use job_ends::{Told, run_told};
+use job_loop::{InputEnd, JobStop, Lent, RecordJob};
 use opus_head::{Head, HeadFault, Table, read_head};
 use opus_io::{NoMemory, Sink, SinkStop, Source, write_all};
 use opus_words::{Ending, JobFault};
@@ -56,7 +57,7 @@ pub(crate) fn head_job<S: Source, O: Sink>(
     match WholeForm::new(alloc) {
         Ok(form) => {
             let mut job = HeadJob { alloc };
-            ending_of(run_job(alloc, limit, form, &mut job, source, out))
+            run_told(alloc, limit, form, &mut job, source, out)
         }
         Err(NoMemory) => Ending::NoMemory,
     }
@@ -150,28 +151,16 @@ fn write_matrix<O: Sink>(head: &Head, out: &mut O) -> Result<(), SinkStop>
     write_all(out, b"\n")
 }
 
-// The program's ending, with the text of a refusal.
-fn ending_of(ending: LoopEnding<HeadRefusal>) -> Ending
-    ensures { TellsEnding result ending }
-{
-    match ending {
-        LoopEnding::Ok => Ending::Ok,
-        LoopEnding::Refused(refusal) => Ending::Refused(job_fault(refusal)),
-        LoopEnding::ReadFault => Ending::ReadFault,
-        LoopEnding::WriteFault => Ending::WriteFault,
-        LoopEnding::InputLimit => Ending::InputLimit,
-        LoopEnding::NoMemory => Ending::NoMemory,
-    }
-}
+impl Told for HeadRefusal {
+    ghost tells = { TellsHead };
 
-// The fault that the program names, of the one record that the input is.
-fn job_fault(refusal: HeadRefusal) -> JobFault
-    ensures { TellsHead result refusal }
-{
-    JobFault {
-        index: 0,
-        place: refusal.place,
-        text: fault_text(refusal.fault),
+    // The fault of the one record that the input is.
+    fn fault(self) -> JobFault {
+        JobFault {
+            index: 0,
+            place: self.place,
+            text: fault_text(self.fault),
+        }
     }
 }
 

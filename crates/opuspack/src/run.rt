@@ -2,7 +2,7 @@
 ghost use Rattle.std.specs.Prelude.{◌≡◌, ℕ, ◌^◌, ◌≤◌, map, string_bytes};
 ghost use Rattle.opus_words.specs.Fit.{IsFit};
 ghost use Rattle.opus_words.specs.Words.{job_of_words};
-ghost use Rattle.pack_jobs.specs.PackEnds.{seen_as};
+ghost use Rattle.job_ends.specs.Ends.{seen_as};
 ghost use Rattle.opuspack.specs.declared.finish.Finish.{Finish};
 ghost use Rattle.opuspack.specs.Finish.{status_of, note_of, Noted};
 ghost use Rattle.opuspack.specs.Run.{Meant, KindEnds, seed_in, count_in};

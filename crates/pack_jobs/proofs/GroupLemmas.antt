@@ -1,5 +1,5 @@
 -- What merge makes of records, told by their groups.
-use Rattle.std.proofs.Common.{◌≡◌, ℕ, zero, suc, ◌+◌, ◌-◌, ◌<◌, ◌≤◌, ◌==◌, Bool, true, false, if◌then◌else◌, List, [], ◌∷◌, ◌++◌, length, flat_map, Option, None, Some, IfSome, option_map, Result, Ok, Err, refl, sym, ap, ◌∙◌, subst, append-nil, append_assoc, length-append, eqb-true, arith}
+use Rattle.std.proofs.Common.{◌≡◌, ℕ, ◌+◌, ◌-◌, ◌<◌, ◌≤◌, Bool, true, false, if◌then◌else◌, List, [], ◌∷◌, ◌++◌, length, flat_map, Option, None, Some, IfSome, option_map, Result, Ok, Err, refl, sym, ap, ◌∙◌, subst, append-nil, append_assoc, length-append, eqb-true, arith}
 use Rattle.std.specs.List.{AllByRecursion}
 use Rattle.std.proofs.lemmas.Bool.{eqb-false}
 use Rattle.std.proofs.lemmas.List.{flat_map_more}
@@ -13,15 +13,15 @@ use Rattle.opus_words.specs.declared.form.Form.{Form}
 use Rattle.pack_records.specs.declared.item.Found.{Found}
 use Rattle.pack_records.specs.declared.item.Found.TheVariants.{Packet, Lost, Bad}
 use Rattle.pack_records.specs.declared.item.Item.{Item}
-use Rattle.pack_records.specs.Fits.{IsForm, FoundFits, ItemFits, form_of}
+use Rattle.pack_records.specs.Fits.{FoundFits}
 use Rattle.pack_records.specs.Lent.{lent_value}
 use Rattle.pack_records.proofs.LentLemmas.{lent_value-form}
 use Rattle.pack_jobs.specs.declared.refusal.Why.{Why}
 use Rattle.pack_jobs.specs.declared.refusal.Refusal.{Refusal}
 use Rattle.pack_jobs.specs.Refusal.{told, refusal_of, refusal_at}
 use Rattle.pack_jobs.specs.Records.{record_bytes}
-use Rattle.pack_jobs.specs.Merge.{Group, group_of, no_packets, with_packet, with_lent, takes_none, group_text, full_text, next_group, put_behind, lent_behind, MergeKept, kept_of, group_goes, merge_put, merge_packet, merge_found, merge}
-use Rattle.pack_jobs.specs.Groups.{Part, packets, lost, records_of, IsPacket, IsLost, IsGroup, IsClosedBy, AreGroups, IsCutInto, CanMerge, CanAllMerge, packet_in, listed, values_of, merged_with, merged, last_range, part_text, texts_of, AreLent}
+use Rattle.pack_jobs.specs.Merge.{Group, group_of, no_packets, with_packet, takes_none, group_text, put_behind, MergeKept, kept_of, group_goes, merge_put, merge_packet, merge_found, merge}
+use Rattle.pack_jobs.specs.Groups.{Part, packets, lost, records_of, IsPacket, IsLost, IsClosedBy, AreGroups, IsCutInto, CanMerge, CanAllMerge, packet_in, listed, values_of, merged, last_range, texts_of, AreLent}
 use Rattle.pack_jobs.proofs.GroupKinds.{can-more}
 use Rattle.pack_jobs.proofs.RunLemmas.{runs-broke, going-text, going≢broke}
 

@@ -1,15 +1,7 @@
 -- A run of a job over packets: want of memory, and the places of records.
-use Rattle.std.proofs.Common.{◌≡◌, ◌⊎◌, ℕ, List, [], Bool, Option, None, Some, IfSome, inl, inr, refl, sym, subst, arith}
-use Rattle.std.proofs.KnownBytes.{Consumes-nil}
-use Rattle.opus_io.specs.Cause.{Rose}
+use Rattle.std.proofs.Common.{◌≡◌, ℕ, List, [], Option, inr, refl, sym, subst, arith}
 use Rattle.opus_io.specs.Outside.{Outside}
-use Rattle.job_loop.specs.Causes.{Causes}
-use Rattle.job_loop.specs.Meaning.{Meaning}
-use Rattle.job_loop.specs.Ran.{Ran}
 use Rattle.job_loop.specs.Shown.{Shown}
-use Rattle.job_loop.specs.declared.ending.Ending.{Ending}
-use Rattle.job_loop.specs.declared.ending.Ending.TheVariants as endings
-use Rattle.job_loop.proofs.InnerLemmas.{unstarted}
 use Rattle.opus_feed.specs.declared.framing.Framing.TheVariants.{Whole}
 use Rattle.opus_feed.specs.declared.padding.Padding.{Padding}
 use Rattle.opus_words.specs.declared.ending.Ending as program
@@ -25,71 +17,27 @@ use Rattle.pack_records.specs.declared.item.Item.{Item}
 use Rattle.pack_records.specs.SettledLaws.{early_nil}
 use Rattle.pack_records.proofs.DemoFronts.{undecided_short}
 use Rattle.pack_records.proofs.ShowsLemmas.{none_first, nil_early}
-use Rattle.pack_jobs.specs.declared.refusal.Refusal.{Refusal}
+use Rattle.job_ends.proofs.EndsLemmas.{unstarted_ends}
+use Rattle.pack_jobs.specs.Refusal.{Tells}
 use Rattle.pack_jobs.specs.Norm.{norm}
 use Rattle.pack_jobs.specs.Check.{check}
 use Rattle.pack_jobs.specs.Merge.{merge}
 use Rattle.pack_jobs.specs.Split.{split}
 use Rattle.pack_jobs.specs.Pad.{pad}
-use Rattle.pack_jobs.specs.PackEnds.{seen_as, place_of, MeaningEnds, KindEnds, JobEnds, PackEnds, IsPackKind, form_in, padding_in, most_in, size_in, settles_in, ends_in}
-
-wanted : (Lacks Untouched R : Type 0) → (Lacks → ⊥) → (Lacks ⊎ Untouched) ⊎ R → Untouched ⊎ R
-wanted Lacks Untouched R spared (inl (inl lacks)) = absurd (spared lacks)
-wanted Lacks Untouched R spared (inl (inr untouched)) = inl untouched
-wanted Lacks Untouched R spared (inr rose) = inr rose
-
-pub spared_causes : (write memory : Bool) (Lacks Untouched : Type 0) (f f' r r' : ℕ) → (Lacks → ⊥)
-    → Causes write memory (Lacks ⊎ Untouched) f f' r r' → Causes write memory Untouched f f' r r'
-spared_causes write memory Lacks Untouched f f' r r' spared c = record {
-  written = c.written;
-  later = c.later;
-  wanted = λ is. wanted Lacks Untouched (Rose r r') spared (c.wanted is);
-}
-
--- the same run, where a record's place is said otherwise
-pub ran_at : {R K C F : Type 0} → (m : Meaning R K C F) (Settles : List ℕ → List R → Type 0)
-    (Ends : List ℕ → List R → Option C → Type 0) (p q : R → ℕ) (limit : ℕ) (left left' old new : Option (List ℕ))
-    (ending : Ending F) → p ≡ q → Ran m Settles Ends p limit left left' old new [] ending
-    → Ran m Settles Ends q limit left left' old new [] ending
-ran_at m Settles Ends p q limit left left' old new ending same ran =
-    subst (λ place. Ran m Settles Ends place limit left left' old new [] ending) same ran
+use Rattle.pack_jobs.specs.PackEnds.{place_of, KindEnds, JobEnds, PackEnds, IsPackKind, form_in, padding_in, most_in, size_in, settles_in, ends_in}
 
 -- memory ran out before the first read
 
-known : (left : Option (List ℕ)) (P : List ℕ → Type 0) → ((x : List ℕ) → P x) → IfSome left P
-known None P all = tt
-known (Some x) P all = all x
-
-pub unstarted_ends : {K : Type 0} → (m : Meaning (Shown Item) K Cut Refusal)
-    (Settles : List ℕ → List (Shown Item) → Type 0) (Ends : List ℕ → List (Shown Item) → Option Cut → Type 0)
-    (limit : ℕ) (left : Option (List ℕ)) (reads : ℕ) (contents : Option (List ℕ)) (writes refusals : ℕ)
-    (Untouched : Type 0) → Untouched → Settles [] []
-    → MeaningEnds m Settles Ends limit (seen_as left reads contents writes refusals)
-    (seen_as left reads contents writes refusals) Untouched NoMemory
-unstarted_ends m Settles Ends limit left reads contents writes refusals Untouched same settled = (
-  endings.NoMemory,
-  tt,
-  record {
-    ran = unstarted m Settles Ends place_of limit left contents settled;
-    judged = known left _ (λ x rs end reads. tt);
-    taken = ([], omega arith, Consumes-nil left);
-    read = refl;
-    cause = record { written = refl; later = omega arith; wanted = λ is. inl same };
-  },
-)
-
 pub unstarted_kind : (kind : JobKind) → IsPackKind kind → (job : Job)
     (Settles : List ℕ → List (Shown Item) → Type 0) (Ends : List ℕ → List (Shown Item) → Option Cut → Type 0)
-    (limit : ℕ) (left : Option (List ℕ)) (reads : ℕ) (contents : Option (List ℕ)) (writes refusals : ℕ)
-    (Untouched : Type 0) → Untouched → Settles [] []
-    → KindEnds kind job Settles Ends limit (seen_as left reads contents writes refusals)
-    (seen_as left reads contents writes refusals) Untouched NoMemory
-unstarted_kind kinds.Norm is job = unstarted_ends (norm (form_in job) (padding_in job))
-unstarted_kind kinds.Check is job = unstarted_ends (check (form_in job))
+    (limit : ℕ) (outside : Outside) (Untouched : Type 0) → Untouched → Settles [] []
+    → KindEnds kind job Settles Ends limit outside outside Untouched NoMemory
+unstarted_kind kinds.Norm is job = unstarted_ends Tells place_of (norm (form_in job) (padding_in job))
+unstarted_kind kinds.Check is job = unstarted_ends Tells place_of (check (form_in job))
 unstarted_kind kinds.Show is job = absurd is
-unstarted_kind kinds.Merge is job = unstarted_ends (merge (form_in job) job.group)
-unstarted_kind kinds.Split is job = unstarted_ends (split (form_in job) (most_in job))
-unstarted_kind kinds.Pad is job = unstarted_ends (pad (form_in job) (size_in job))
+unstarted_kind kinds.Merge is job = unstarted_ends Tells place_of (merge (form_in job) job.group)
+unstarted_kind kinds.Split is job = unstarted_ends Tells place_of (split (form_in job) (most_in job))
+unstarted_kind kinds.Pad is job = unstarted_ends Tells place_of (pad (form_in job) (size_in job))
 unstarted_kind kinds.Apart is job = absurd is
 unstarted_kind kinds.Join is job = absurd is
 unstarted_kind kinds.Extract is job = absurd is

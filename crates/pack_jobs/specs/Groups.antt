@@ -1,6 +1,6 @@
 -- How records fall into groups of packets: at each lost record, and behind every so many packets, where there is a
 -- bound. And what merge makes of the groups.
-use Rattle.std.specs.Prelude.{◌≡◌, ℕ, ◌+◌, ◌≤◌, List, [], ◌∷◌, length, flat_map, Option, Some, None, IfSome}
+use Rattle.std.specs.Prelude.{◌≡◌, ℕ, ◌≤◌, List, [], ◌∷◌, length, flat_map, Option, Some, None, IfSome}
 use Rattle.std.specs.List.{AllByRecursion}
 use Rattle.job_loop.specs.Shown.{Shown}
 use Rattle.opus_packet.specs.Value.{PacketValue, duration_of, max_duration}

@@ -1,15 +1,8 @@
 -- Which jobs `pack_job` does, and what it answers for each.
-use Rattle.std.specs.Prelude.{◌≡◌, ◌+◌, ℕ, List, [], IfSome, IsSome, unwrap_or, Option, max}
-use Rattle.opus_io.specs.Cause.{RoseWhere}
+use Rattle.std.specs.Prelude.{◌≡◌, ℕ, List, IfSome, IsSome, unwrap_or, Option, max}
 use Rattle.opus_io.specs.Outside.{Outside}
 use Rattle.job_loop.specs.Shown.{Shown}
-use Rattle.job_loop.specs.Meaning.{Meaning, outcome}
-use Rattle.job_loop.specs.Ran.{Ran}
-use Rattle.job_loop.specs.Reading.{Reads, Answers, TakesAtMost}
-use Rattle.job_loop.specs.Causes.{Causes, is_read_fault, is_write_fault, is_no_memory}
-use Rattle.job_loop.specs.declared.input_end.InputEnd.{InputEnd}
-use Rattle.job_loop.specs.declared.ending.Ending as loop
-use Rattle.job_loop.specs.declared.ending.Ending.TheVariants as endings
+use Rattle.job_loop.specs.Meaning.{Meaning}
 use Rattle.opus_feed.specs.declared.padding.Padding.{Padding}
 use Rattle.opus_feed.specs.declared.padding.Padding.TheVariants.{Drop}
 use Rattle.opus_words.specs.declared.form.Form.{Form}
@@ -18,7 +11,7 @@ use Rattle.opus_words.specs.declared.kind.JobKind.{JobKind}
 use Rattle.opus_words.specs.declared.kind.JobKind.TheVariants.{Norm, Check, Merge, Split, Pad}
 use Rattle.opus_words.specs.declared.job.Job.{Job}
 use Rattle.opus_words.specs.declared.ending.Ending.{Ending}
-use Rattle.opus_words.specs.declared.ending.Ending.TheVariants.{Ok, Refused, ReadFault, WriteFault, NoMemory, InputLimit}
+use Rattle.job_ends.specs.Ends as ends
 use Rattle.pack_records.specs.declared.cut.Cut.{Cut}
 use Rattle.pack_records.specs.declared.item.Item.{Item}
 use Rattle.pack_records.specs.Raw.{RawSettles, RawEnds}
@@ -62,48 +55,14 @@ most_in job = max 1 (unwrap_or job.frames 1)
 abbrev pub size_in : Job → ℕ
 size_in job = unwrap_or job.size 0
 
--- the program's ending tells this one
-abbrev pub TellsEnding : Ending → loop.Ending Refusal → Type 0
-TellsEnding Ok endings.Ok = Unit {0}
-TellsEnding (Refused f) (endings.Refused r) = Tells f r
-TellsEnding ReadFault endings.ReadFault = Unit {0}
-TellsEnding WriteFault endings.WriteFault = Unit {0}
-TellsEnding NoMemory endings.NoMemory = Unit {0}
-TellsEnding InputLimit endings.InputLimit = Unit {0}
-TellsEnding result ending = ⊥
-
--- the outside of a run, by its parts
-abbrev pub seen_as : Option (List ℕ) → ℕ → Option (List ℕ) → ℕ → ℕ → Outside
-seen_as left reads contents writes refusals = record {
-  left = left;
-  reads = reads;
-  contents = contents;
-  writes = writes;
-  refusals = refusals;
-}
-
 -- where a record was decided
 abbrev pub place_of : Shown Item → ℕ
 place_of r = r.item.place
 
--- A run of the job m over records as Settles and Ends have them ended so: this was the outside, and this it is.
--- Untouched says that the source is as it was.
-pub record RunEnds {K : Type 0} (m : Meaning (Shown Item) K Cut Refusal)
-    (Settles : List ℕ → List (Shown Item) → Type 0) (Ends : List ℕ → List (Shown Item) → Option Cut → Type 0)
-    (limit : ℕ) (before after : Outside) (Untouched : Type 0) (ending : loop.Ending Refusal) : Type 0 where
-  pub ran : Ran m Settles Ends place_of limit before.left after.left before.contents after.contents [] ending
-  pub judged : IfSome before.left (λ x. (rs : List (Shown Item)) (end : InputEnd Cut) → Reads Settles Ends limit x rs end
-      → Answers ending end (outcome m rs end) before.contents after.contents)
-  pub taken : TakesAtMost (limit + 1) before.left after.left
-  pub read : RoseWhere (is_read_fault ending) before.reads after.reads
-  pub cause : Causes (is_write_fault ending) (is_no_memory ending) Untouched before.writes after.writes before.refusals
-      after.refusals
-
--- the same, as the program's ending tells it
+-- how a run of a job over packets ended
 abbrev pub MeaningEnds : {K : Type 0} → Meaning (Shown Item) K Cut Refusal → (List ℕ → List (Shown Item) → Type 0)
     → (List ℕ → List (Shown Item) → Option Cut → Type 0) → ℕ → Outside → Outside → Type 0 → Ending → Type 0
-MeaningEnds m Settles Ends limit before after Untouched result =
-    (ending : loop.Ending Refusal) × TellsEnding result ending × RunEnds m Settles Ends limit before after Untouched ending
+MeaningEnds m = ends.MeaningEnds Tells place_of m
 
 -- what the job of a kind means over records of its form: one line a job
 abbrev pub KindEnds : JobKind → Job → (List ℕ → List (Shown Item) → Type 0)

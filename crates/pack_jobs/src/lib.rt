@@ -20,7 +20,7 @@ mod text;
 pub use check::Check;
 pub use merge::Merge;
 pub use norm::Norm;
-pub use pack::{pack_job, run_made};
+pub use pack::pack_job;
 pub use pad::Pad;
 pub use refusal::{Refusal, Why, refusal_at};
 pub use split::Split;

@@ -2,7 +2,8 @@
 ghost use Rattle.std.specs.Prelude.{◌≡◌, ◌^◌, ◌≤◌, [], IfOk};
 ghost use Rattle.job_loop.specs.Shown.{Shown};
 ghost use Rattle.job_loop.specs.Meaning.{Meaning};
-ghost use Rattle.pack_jobs.specs.PackEnds.{IsPackKind, IsPackJob, PackEnds, JobEnds, MeaningEnds, TellsEnding, seen_as, place_of, form_in, padding_in, most_in, size_in};
+ghost use Rattle.job_ends.specs.Ends.{seen_as};
+ghost use Rattle.pack_jobs.specs.PackEnds.{IsPackKind, IsPackJob, PackEnds, JobEnds, MeaningEnds, place_of, form_in, padding_in, most_in, size_in};
 
 use crate::check::Check;
 use crate::merge::Merge;
@@ -10,8 +11,8 @@ use crate::norm::Norm;
 use crate::pad::Pad;
 use crate::refusal::Refusal;
 use crate::split::Split;
-use crate::text::job_fault;
-use job_loop::{Ending as LoopEnding, Form as RecordForm, RecordJob, run_job};
+use job_ends::run_made;
+use job_loop::{Form as RecordForm, RecordJob};
 use opus_feed::Padding;
 use opus_io::{NoMemory, Sink, Source};
 use opus_words::{Ending, Form, Job, JobKind};
@@ -145,60 +146,31 @@ where
     let form = form_in(job);
     match job.kind {
         JobKind::Norm => {
-            let mut norm = Norm::new(form, padding_in(job));
-            run_ended(alloc, limit, records, &mut norm, source, out)
+            let norm = Ok(Norm::new(form, padding_in(job)));
+            run_over(alloc, limit, records, norm, source, out)
         }
         JobKind::Check => {
-            let mut check = Check::new(form);
-            run_ended(alloc, limit, records, &mut check, source, out)
+            let check = Ok(Check::new(form));
+            run_over(alloc, limit, records, check, source, out)
         }
         JobKind::Merge => {
             let merge = Merge::new(alloc, form, job.group);
-            run_made(alloc, limit, records, merge, source, out)
+            run_over(alloc, limit, records, merge, source, out)
         }
         JobKind::Split => {
             let split = Split::new(alloc, form, most_in(job));
-            run_made(alloc, limit, records, split, source, out)
+            run_over(alloc, limit, records, split, source, out)
         }
         JobKind::Pad => {
             let pad = Pad::new(alloc, form, size_in(job));
-            run_made(alloc, limit, records, pad, source, out)
+            run_over(alloc, limit, records, pad, source, out)
         }
         _ => unreachable!(),
     }
 }
 
-// Runs a job that takes no memory of its own, and ends as the program does.
-fn run_ended<F, J, S, O>(
-    alloc: Global,
-    limit: u64,
-    records: F,
-    job: &mut J,
-    source: &mut S,
-    out: &mut O,
-) -> Ending
-where
-    F: RecordForm<Record = Item, Cut = Cut> + Drop,
-    J: RecordJob<Item, Cut, Refusal = Refusal>,
-    S: Source,
-    O: Sink,
-    requires some { 1 ≤ limit }
-    requires most { limit ≤ 2 ^ 40 }
-    requires stands { F.stands records [] [] }
-    requires place { F.place ≡ place_of }
-    requires start { J.stands job.old (J.meaning job.old).start }
-    requires spared { J.lacks job.old → ⊥ }
-    ensures { MeaningEnds (J.meaning job.old) (F.settles (F.layout records)) (F.ends (F.layout records)) limit
-        (seen_as (S.left source.old) (S.faults source.old) (O.contents out.old) (O.faults out.old) (O.refusals out.old))
-        (seen_as (S.left source.new) (S.faults source.new) (O.contents out.new) (O.faults out.new) (O.refusals out.new))
-        (source.new ≡ source.old) result }
-{
-    ending_of(run_job(alloc, limit, records, job, source, out))
-}
-
-/// Runs a job over records of a form, which was fed nothing yet, and ends as the program does. The job's own memory was
-/// taken before, if there was some.
-pub fn run_made<F, J, S, O>(
+// Runs a job over records of packets, which were fed nothing yet. The job's own memory was taken before, if there was some.
+fn run_over<F, J, S, O>(
     alloc: Global,
     limit: u64,
     records: F,
@@ -223,22 +195,5 @@ where
         (seen_as (S.left source.new) (S.faults source.new) (O.contents out.new) (O.faults out.new) (O.refusals out.new))
         (source.new ≡ source.old) result }
 {
-    match made {
-        Ok(mut job) => run_ended(alloc, limit, records, &mut job, source, out),
-        Err(NoMemory) => Ending::NoMemory,
-    }
-}
-
-// The program's ending, with the text of a refusal.
-fn ending_of(ending: LoopEnding<Refusal>) -> Ending
-    ensures { TellsEnding result ending }
-{
-    match ending {
-        LoopEnding::Ok => Ending::Ok,
-        LoopEnding::Refused(refusal) => Ending::Refused(job_fault(refusal)),
-        LoopEnding::ReadFault => Ending::ReadFault,
-        LoopEnding::WriteFault => Ending::WriteFault,
-        LoopEnding::InputLimit => Ending::InputLimit,
-        LoopEnding::NoMemory => Ending::NoMemory,
-    }
+    run_made(alloc, limit, records, made, source, out)
 }

@@ -5,6 +5,7 @@ ghost use Rattle.pack_jobs.specs.Refusal.{rule_name, fault_text, refusal_text, T
 
 use crate::refusal::{Refusal, Why};
 use arrayvec::ArrayString;
+use job_ends::Told;
 use opus_packet::{Fault, Rule};
 use opus_words::JobFault;
 
@@ -69,16 +70,17 @@ fn rule_text(rule: Rule) -> &'static str
     }
 }
 
-/// The fault that the program names.
-#[cold]
-#[inline(never)]
-pub(crate) fn job_fault(refusal: Refusal) -> JobFault
-    ensures { Tells result refusal }
-{
-    JobFault {
-        index: refusal.index,
-        place: refusal.place,
-        text: refusal_text(refusal.why),
+impl Told for Refusal {
+    ghost tells = { Tells };
+
+    #[cold]
+    #[inline(never)]
+    fn fault(self) -> JobFault {
+        JobFault {
+            index: self.index,
+            place: self.place,
+            text: refusal_text(self.why),
+        }
     }
 }
 

@@ -1,4 +1,4 @@
-use Rattle.std.proofs.Common.{◌≡◌, List, ℕ, OnOk, OnErr, Result, Ok, Err, sym, subst, ◌∙◌}
+use Rattle.std.proofs.Common.{◌≡◌, subst, ◌∙◌}
 use Rattle.opus_io.proofs.Onward.{Onward-trans}
 use Rattle.std.specs.Io.KnownBytes.{Appends}
 use Rattle.job_loop.specs.Telling.{Front}

@@ -1,4 +1,4 @@
-use Rattle.std.proofs.Common.{◌≡◌, List, ℕ, [], ◌∷◌, codes, OnErr, sym, ◌∙◌}
+use Rattle.std.proofs.Common.{[], ◌∷◌, codes, OnErr, sym, ◌∙◌}
 use Rattle.opus_io.proofs.Onward.{Onward-trans}
 use Rattle.job_loop.specs.Telling.{Front}
 use Rattle.opuspack.proofs.PartsLemmas.{piece_front_if, second_front, third_front}

@@ -1,9 +1,7 @@
-use Rattle.std.proofs.Common.{◌≡◌, ℕ, ◌+◌, ◌<◌, List, ap, sym, ◌∙◌, refl, arith}
+use Rattle.std.proofs.Common.{◌≡◌, ◌+◌, ap, ◌∙◌, refl, arith}
 use Rattle.opus_io.proofs.Onward.{Onward-still, Onward-trans}
-use Rattle.job_loop.specs.Shown.{Shown}
 use Rattle.job_loop.specs.Telling.{Goes, Stops}
 use Rattle.job_loop.proofs.RunLemmas.{meant}
-use Rattle.opuspack.specs.declared.made.MadeRecord.{MadeRecord}
 use Rattle.opuspack.specs.Made.{made_shown}
 use Rattle.opuspack.proofs.MadeReached.{shown_is, taken_none, taken_more, taken_front}
 use Rattle.opuspack.proofs.run_made.take_records.Goals as goal

@@ -1,4 +1,4 @@
-use Rattle.std.proofs.Common.{◌≡◌, rules, ℕ, ◌*◌, ◌≤◌, length, sum, arith}
+use Rattle.std.proofs.Common.{◌≡◌, rules, ◌*◌, ◌≤◌, length, sum, arith}
 use Rattle.opus_packet.proofs.BytesLemmas.{AreBytes-from}
 use Rattle.opuspack.proofs.TrialLemmas.{sum-most}
 use Rattle.opuspack.proofs.trial.sum_of.Goals as goal

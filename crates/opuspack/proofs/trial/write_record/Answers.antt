@@ -1,7 +1,6 @@
-use Rattle.std.proofs.Common.{◌≡◌, ℕ, ◌++◌, List, length, ap, sym, subst, ◌∙◌, OnErr, length-append, arith}
+use Rattle.std.proofs.Common.{◌≡◌, ℕ, ◌++◌, List, length, ap, sym, subst, ◌∙◌, length-append}
 use Rattle.std.specs.Io.KnownBytes.{Appends}
 use Rattle.opus_io.proofs.Onward.{Onward-trans}
-use Rattle.job_loop.specs.Telling.{Front}
 use Rattle.rec_store.specs.DemoStore.{demo_head}
 use Rattle.opuspack.proofs.PartsLemmas.{behind_front_if}
 use Rattle.opuspack.proofs.trial.write_record.Goals as goal

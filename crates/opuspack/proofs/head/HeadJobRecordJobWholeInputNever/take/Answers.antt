@@ -1,8 +1,7 @@
-use Rattle.std.proofs.Common.{◌≡◌, subst, sym, ap}
-use Rattle.job_loop.specs.Meaning.{Step, step_text}
+use Rattle.std.proofs.Common.{subst, sym, ap}
+use Rattle.job_loop.specs.Meaning.{step_text}
 use Rattle.job_loop.specs.Telling.{Front}
 use Rattle.opus_head.specs.HeadBytes.{IsOpusHead}
-use Rattle.opuspack.specs.declared.head.HeadRefusal.{HeadRefusal}
 use Rattle.opuspack.specs.HeadLines.{head_lines}
 use Rattle.opuspack.proofs.HeadLemmas.{head_told}
 use Rattle.opuspack.proofs.head.HeadJobRecordJobWholeInputNever.take.Goals as goal

@@ -1,5 +1,4 @@
-use Rattle.std.proofs.Common.{◌≡◌, ◌+◌, [], length, vec_len, vec_capacity, IfOk, subst, arith}
-use Rattle.opus_make.specs.Generated.{generated, Gives}
+use Rattle.std.proofs.Common.{◌+◌, length, vec_len, vec_capacity, arith}
 use Rattle.opuspack.specs.Made.{made_bytes}
 use Rattle.opuspack.proofs.MadeSizes.{made_bytes-most, made_bytes-gives, is_made}
 use Rattle.opuspack.proofs.made.MadeRecords.next.Goals as goal

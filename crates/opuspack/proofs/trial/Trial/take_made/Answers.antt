@@ -1,11 +1,11 @@
-use Rattle.std.proofs.Common.{◌≡◌, ℕ, ◌++◌, List, [], length, ap, sym, subst, ◌∙◌, Option, None, Some, OnOk, OnErr, arith}
+use Rattle.std.proofs.Common.{◌≡◌, ℕ, List, length, ap, sym, subst, ◌∙◌, Some, OnOk, OnErr, arith}
 use Rattle.std.specs.Io.KnownBytes.{Appends}
 use Rattle.job_loop.specs.Telling.{Front}
 use Rattle.rec_store.specs.DemoStore.{demo_record}
 use Rattle.opus_packet.specs.Value.{PacketValue}
-use Rattle.opuspack.specs.Totals.{packet_in, normal_form, Adds}
+use Rattle.opuspack.specs.Totals.{packet_in, normal_form}
 use Rattle.opuspack.proofs.TotalsLemmas.{lost_stands, packet_stands}
-use Rattle.opuspack.proofs.TakeLemmas.{IsLost, HasPacket, none-lost, some-packet}
+use Rattle.opuspack.proofs.TakeLemmas.{IsLost, none-lost, some-packet}
 use Rattle.opuspack.proofs.trial.Trial.take_made.Given.{Over}
 use Rattle.opuspack.proofs.trial.Trial.take_made.Goals as goal
 

@@ -1,4 +1,4 @@
-use Rattle.std.proofs.Common.{◌≡◌, ℕ, ◌+◌, ◌++◌, List, ap, sym, subst, ◌∙◌, sum, sum_by, OnOk, OnErr, arith}
+use Rattle.std.proofs.Common.{◌≡◌, ℕ, ◌+◌, ◌++◌, List, ap, sym, subst, ◌∙◌, sum, OnOk, OnErr, arith}
 use Rattle.std.specs.Io.KnownBytes.{Appends}
 use Rattle.job_loop.specs.Telling.{Front}
 use Rattle.pack_jobs.specs.Refusal.{told}

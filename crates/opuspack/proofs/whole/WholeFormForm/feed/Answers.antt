@@ -1,4 +1,4 @@
-use Rattle.std.proofs.Common.{◌≡◌, ◌-◌, ◌++◌, length, take, min, arith}
+use Rattle.std.proofs.Common.{◌≡◌, ◌++◌, take, arith}
 use Rattle.opuspack.proofs.WholeLemmas.{whole_fed}
 use Rattle.opuspack.proofs.whole.WholeFormForm.feed.Goals as goal
 
