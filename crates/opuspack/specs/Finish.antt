@@ -2,6 +2,8 @@
 use Rattle.std.specs.Prelude.{ℕ, ◌⊎◌, List, ◌++◌, take, codes}
 use Rattle.std.specs.declared.option.Option.{Option}
 use Rattle.std.specs.Io.KnownBytes.{Appends}
+use Rattle.std.specs.declared.io.ErrorKind.{ErrorKind}
+use Rattle.std.specs.declared.io.ErrorKind.TheVariants.{OutOfMemory}
 use Rattle.opus_io.specs.Cause.{Rose}
 use Rattle.opus_words.specs.declared.ending.Ending.{Ending}
 use Rattle.opus_words.specs.declared.ending.Ending.TheVariants as ending
@@ -34,6 +36,11 @@ status_of_ending ending.InputLimit = status.InputLimit
 abbrev pub status_of : Finish → Status
 status_of (Usage k) = status.Usage
 status_of (Ended e) = status_of_ending e
+
+-- how the program ends where the runtime refuses its arguments: what is no text is wrong words
+abbrev pub refused_as : ErrorKind → Finish
+refused_as OutOfMemory = Ended ending.NoMemory
+refused_as _ = Usage kind.Words
 
 -- what is wrong with the words
 abbrev pub usage_text : UsageKind → List ℕ

@@ -1,4 +1,7 @@
 //! The program's arguments.
+ghost use Rattle.std.specs.Prelude.{◌≡◌};
+ghost use Rattle.opuspack.specs.Finish.{refused_as};
+
 use crate::finish::Finish;
 use opus_words::{Ending, UsageKind};
 use std::rt::Env;
@@ -7,7 +10,8 @@ use std::{env, io};
 /// The arguments without the program's name; or how the program ends where the runtime refuses them.
 pub fn words_of(rt: &(impl Env + AllocGlobal)) -> Result<Vec<String>, Finish> {
     let mut words = Vec::new(rt.alloc());
-    for word in env::args(rt).map_err(|error| refused(&error))?.skip(1) {
+    let arguments = env::args(rt).map_err(|error| refused(error.kind()))?;
+    for word in arguments.skip(1) {
         words
             .push(word)
             .map_err(|_| Finish::Ended(Ending::NoMemory))?;
@@ -16,8 +20,10 @@ pub fn words_of(rt: &(impl Env + AllocGlobal)) -> Result<Vec<String>, Finish> {
 }
 
 // Arguments that are no text are wrong words.
-fn refused(error: &io::Error) -> Finish {
-    if error.kind() == io::ErrorKind::OutOfMemory {
+fn refused(kind: io::ErrorKind) -> Finish
+    ensures { result ≡ refused_as kind }
+{
+    if kind == io::ErrorKind::OutOfMemory {
         Finish::Ended(Ending::NoMemory)
     } else {
         Finish::Usage(UsageKind::Words)
