@@ -297,19 +297,21 @@ impl Form for DumpForm {
 
     ghost ready = { IsReady };
 
+    ghost lacks = { λ _. ⊥ };
+
     #[inline(always)]
-    fn feed(&mut self, at: u64, piece: &[u8]) -> Fed {
+    fn feed(&mut self, at: u64, piece: &[u8]) -> Result<Fed, NoMemory> {
         match self.mode {
-            Mode::Fresh | Mode::Kept if piece.len() >= 2 => self.front(at, piece),
-            Mode::Fresh | Mode::Kept => self.first(at, piece),
-            Mode::First => self.second(at, piece),
-            Mode::Part => self.more(at, piece),
-            Mode::Line => self.more_line(at, piece),
-            Mode::Head => self.more_head(piece),
-            Mode::Bad => Fed {
+            Mode::Fresh | Mode::Kept if piece.len() >= 2 => Ok(self.front(at, piece)),
+            Mode::Fresh | Mode::Kept => Ok(self.first(at, piece)),
+            Mode::First => Ok(self.second(at, piece)),
+            Mode::Part => Ok(self.more(at, piece)),
+            Mode::Line => Ok(self.more_line(at, piece)),
+            Mode::Head => Ok(self.more_head(piece)),
+            Mode::Bad => Ok(Fed {
                 count: piece.len(),
                 whole: false,
-            },
+            }),
         }
     }
 

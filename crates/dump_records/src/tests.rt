@@ -61,7 +61,7 @@ fn says(
     for _ in 0..input.len() {
         let piece = &rest[..rest.len().min(step.min(4096))];
         if !piece.is_empty() {
-            let fed = form.feed(at.min(MOST), piece);
+            let fed = form.feed(at.min(MOST), piece)?;
             at = at.saturating_add(fed.count as u64);
             if fed.whole {
                 let lent = form.record(&piece[..fed.count]);

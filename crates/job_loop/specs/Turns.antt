@@ -2,7 +2,7 @@
 use Rattle.std.specs.Prelude.{◌≡◌, ℕ, ◌+◌, ◌-◌, ◌<◌, ◌≤◌, List, [], ◌∷◌, ◌++◌, Bool, true, false, length, Option, if◌then◌else◌}
 use Rattle.opus_io.specs.Reader.{ReaderState}
 use Rattle.job_loop.specs.declared.records.Turn.{Turn}
-use Rattle.job_loop.specs.declared.records.Turn.TheVariants.{Part, Record, Needs, Past, End, Last}
+use Rattle.job_loop.specs.declared.records.Turn.TheVariants.{Part, Record, Needs, Past, End, Last, NoMemory}
 
 -- bytes that the reader kept were passed, one at least, and these are the ones passed last
 pub record Moved (old new : ReaderState) : Type 0 where
@@ -31,6 +31,7 @@ Moves Needs old new over = Empty old new × (over ≡ false)
 Moves Past old new over = Full old new
 Moves (End cut) old new over = Empty old new × (over ≡ true)
 Moves (Last cut) old new over = Empty old new × (over ≡ true)
+Moves NoMemory old new over = new ≡ old
 
 -- what the turn says of the records, where h was passed before and the records rs stood
 abbrev pub Turns : {R C : Type 0} → (List ℕ → List R → Type 0) → (List ℕ → List R → Option C → Type 0) → (R → ℕ)
@@ -42,6 +43,7 @@ Turns Stands Ends place current Needs new h rs = Stands h rs
 Turns Stands Ends place current Past new h rs = Stands h rs
 Turns Stands Ends place current (End cut) new h rs = Ends h rs cut
 Turns Stands Ends place current (Last cut) new h rs = Ends h (rs ++ current ∷ []) cut
+Turns Stands Ends place current NoMemory new h rs = Unit {0}
 
 -- the turn has a record to lend
 abbrev pub IsReady : {C : Type 0} → Turn C → Type 0 → Type 0
@@ -51,6 +53,17 @@ IsReady Needs Ready = Unit {0}
 IsReady Past Ready = Unit {0}
 IsReady (End cut) Ready = Unit {0}
 IsReady (Last cut) Ready = Ready
+IsReady NoMemory Ready = Unit {0}
+
+-- the turn gives up only where it may run out of memory
+abbrev pub IsWanting : {C : Type 0} → Turn C → Type 0 → Type 0
+IsWanting Part Lacks = Unit {0}
+IsWanting Record Lacks = Unit {0}
+IsWanting Needs Lacks = Unit {0}
+IsWanting Past Lacks = Unit {0}
+IsWanting (End cut) Lacks = Unit {0}
+IsWanting (Last cut) Lacks = Unit {0}
+IsWanting NoMemory Lacks = Lacks
 
 -- what is kept lies within the reader's buffer, and at most one byte past the limit
 pub record Within (k : ReaderState) : Type 0 where

@@ -1,9 +1,10 @@
 //! What a form of records has to offer.
-ghost use Rattle.std.specs.Prelude.{◌≡◌, ◌+◌, ◌^◌, ◌≤◌, ◌<◌, ℕ, List, [], ◌++◌, Option, true, take, length};
+ghost use Rattle.std.specs.Prelude.{◌≡◌, ◌+◌, ◌^◌, ◌≤◌, ◌<◌, ℕ, List, [], ◌++◌, Option, true, take, length, IfOk, OnErr};
 ghost use Rattle.job_loop.specs.Shown.{Shown};
 ghost use Rattle.job_loop.specs.Forms.{HasFed, HasEnded, Begins};
 
 use crate::{Lent, Numbers};
+use opus_io::NoMemory;
 
 /// What a form took of the bytes that it was fed.
 #[derive(Clone, Copy, Debug, PartialEq, Eq)]
@@ -57,18 +58,27 @@ pub trait Form {
     // The record that stands can be lent with these bytes.
     ghost ready: { Self → List ℕ → Type 0 };
 
+    // Whether the machine may run out of memory while it is fed.
+    ghost lacks: { Layout → Type 0 };
+
     /// Takes bytes from the front of `piece`, one at least, and stops behind a byte that decides a record.
     /// `at` bytes came before.
-    fn feed(&mut self, at: u64, piece: &[u8]) -> Fed
+    ///
+    /// # Errors
+    ///
+    /// No memory for what has to be kept. Nothing more may be fed then.
+    fn feed(&mut self, at: u64, piece: &[u8]) -> Result<Fed, NoMemory>
         requires some { 0 < length piece.now }
         requires fits { at + length piece.now ≤ 2 ^ 40 }
-        ensures some { 1 ≤ result.count }
-        ensures most { result.count ≤ length piece.now }
+        ensures some { IfOk result (λ f. 1 ≤ f.count) }
+        ensures most { IfOk result (λ f. f.count ≤ length piece.now) }
         ensures same { layout self.new ≡ layout self.old }
-        ensures fed { (h : List ℕ) (rs : List (Shown Self.Record)) → stands self.old h rs → length h ≡ at
-            → HasFed (stands self.new) place (current self.new (take result.count piece.now)) result.whole
-            h rs (take result.count piece.now) (at + result.count) }
-        ensures ready { result.whole ≡ true → ready self.new (take result.count piece.now) };
+        ensures fed { IfOk result (λ f. (h : List ℕ) (rs : List (Shown Self.Record)) → stands self.old h rs
+            → length h ≡ at
+            → HasFed (stands self.new) place (current self.new (take f.count piece.now)) f.whole
+            h rs (take f.count piece.now) (at + f.count)) }
+        ensures ready { IfOk result (λ f. f.whole ≡ true → ready self.new (take f.count piece.now)) }
+        ensures lacks { OnErr result (lacks (layout self.old)) };
 
     /// The record that stands. `own` are the bytes that were taken last.
     fn record<'a>(&'a self, own: &'a [u8]) -> Lent<'a, Self::Record>

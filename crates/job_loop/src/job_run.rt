@@ -49,7 +49,7 @@ where
     ensures same { J.meaning job.new ≡ J.meaning job.old }
     ensures read { RoseWhere (is_read_fault result) (S.faults source.old) (S.faults source.new) }
     ensures cause { Causes (is_write_fault result) (is_no_memory result)
-        (J.lacks job.old ⊎ source.new ≡ source.old)
+        ((J.lacks job.old ⊎ F.lacks (F.layout form)) ⊎ source.new ≡ source.old)
         (O.faults out.old) (O.faults out.new) (O.refusals out.old) (O.refusals out.new) }
 {
     let Ok(reader) = Reader::new(alloc, limit) else {
@@ -86,7 +86,8 @@ where
         (S.left source.old) (S.left source.new) (O.contents out.old) (O.contents out.new) (O.held out.new) result }
     ensures same { J.meaning job.new ≡ J.meaning job.old }
     ensures read { RoseWhere (is_read_fault result) (S.faults source.old) (S.faults source.new) }
-    ensures cause { Causes (is_write_fault result) (is_no_memory result) (J.lacks job.old)
+    ensures cause { Causes (is_write_fault result) (is_no_memory result)
+        (J.lacks job.old ⊎ F.lacks (F.layout records.old.form))
         (O.faults out.old) (O.faults out.new) (O.refusals out.old) (O.refusals out.new) }
     ensures onward { Onward (O.onto out.old) (O.onto out.new) (O.handed out.old) (O.handed out.new) }
 {

@@ -4,10 +4,10 @@ ghost use Rattle.std.specs.Io.KnownBytes.{IsAtEnd};
 ghost use Rattle.opus_io.specs.Source.{SourceCause};
 ghost use Rattle.opus_io.specs.Reader.{Stays};
 ghost use Rattle.job_loop.specs.Shown.{Shown};
-ghost use Rattle.job_loop.specs.Turns.{Moves, Turns, IsReady, Within, still};
+ghost use Rattle.job_loop.specs.Turns.{Moves, Turns, IsReady, IsWanting, Within, still};
 
 use crate::{Form, Lent};
-use opus_io::{Failed, Reader, Source};
+use opus_io::{Failed, NoMemory, Reader, Source};
 
 /// What comes next of an input.
 #[derive(Clone, Copy)]
@@ -24,6 +24,8 @@ pub(crate) enum Turn<C> {
     End(Option<C>),
     /// The input is over likewise, and its end decides one more record.
     Last(Option<C>),
+    /// The form has no memory to go on.
+    NoMemory,
 }
 
 /// A form over a reader. It hands no byte twice to the form, and reads only where it is told to.
@@ -60,14 +62,19 @@ impl<F: Form> Records<F> {
         ensures same { F.layout self.new.form ≡ F.layout self.old.form }
         ensures over { self.new.over ≡ self.old.over }
         ensures ready { IsReady result (F.ready self.new.form self.new.reader.last) }
+        ensures wanting { IsWanting result (F.lacks (F.layout self.old.form)) }
     {
         let shown = self.reader.shown();
         if shown.is_empty() {
             return self.idle();
         }
-        let fed = self.form.feed(self.reader.passed(), shown);
-        self.reader.pass(fed.count);
-        if fed.whole { Turn::Record } else { Turn::Part }
+        match self.form.feed(self.reader.passed(), shown) {
+            Ok(fed) => {
+                self.reader.pass(fed.count);
+                if fed.whole { Turn::Record } else { Turn::Part }
+            }
+            Err(NoMemory) => Turn::NoMemory,
+        }
     }
 
     // Where nothing is shown.
@@ -85,6 +92,7 @@ impl<F: Form> Records<F> {
         ensures same { F.layout self.new.form ≡ F.layout self.old.form }
         ensures over { self.new.over ≡ self.old.over }
         ensures ready { IsReady result (F.ready self.new.form self.new.reader.last) }
+        ensures wanting { IsWanting result (F.lacks (F.layout self.old.form)) }
     {
         if self.reader.is_filled() {
             return Turn::Past;

@@ -1,5 +1,5 @@
 //! The loop over the records of an input, which all jobs share.
-ghost use Rattle.std.specs.Prelude.{◌≡◌, ℕ, ◌≤◌, List, [], false, Option};
+ghost use Rattle.std.specs.Prelude.{◌≡◌, ◌⊎◌, ℕ, ◌≤◌, List, [], false, Option};
 ghost use Rattle.std.specs.Io.KnownBytes.{Appends};
 ghost use Rattle.opus_io.specs.Cause.{RoseWhere};
 ghost use Rattle.opus_io.specs.Sink.{Onward};
@@ -39,7 +39,8 @@ where
         (S.left source.old) (S.left source.new) before (O.contents out.new) (O.held out.new) result }
     ensures same { J.meaning job.new ≡ J.meaning job.old }
     ensures read { RoseWhere (is_read_fault result) (S.faults source.old) (S.faults source.new) }
-    ensures cause { Causes (is_write_fault result) (is_no_memory result) (J.lacks job.old)
+    ensures cause { Causes (is_write_fault result) (is_no_memory result)
+        (J.lacks job.old ⊎ F.lacks (F.layout records.old.form))
         (O.faults out.old) (O.faults out.new) (O.refusals out.old) (O.refusals out.new) }
     ensures onward { Onward (O.onto out.old) (O.onto out.new) (O.handed out.old) (O.handed out.new) }
 {
@@ -59,6 +60,7 @@ where
                     return Ending::ReadFault;
                 }
             }
+            Turn::NoMemory => return Ending::NoMemory,
             Turn::Past => return close(job, InputEnd::Past, out),
             Turn::End(cut) => return close(job, end_of(cut), out),
             Turn::Last(cut) => {

@@ -65,13 +65,15 @@ impl Form for WholeForm {
 
     ghost ready = { λ _ _. Unit {0} };
 
-    fn feed(&mut self, _: u64, piece: &[u8]) -> Fed {
+    ghost lacks = { λ _. ⊥ };
+
+    fn feed(&mut self, _: u64, piece: &[u8]) -> Result<Fed, NoMemory> {
         let count = piece.len().min(KEPT - self.kept.len());
         self.kept.extend_from_slice(&piece[..count]).unwrap();
-        Fed {
+        Ok(Fed {
             count: piece.len(),
             whole: false,
-        }
+        })
     }
 
     fn record<'a>(&'a self, _: &'a [u8]) -> Lent<'a, WholeInput> {

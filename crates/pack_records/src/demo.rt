@@ -264,13 +264,15 @@ impl Form for DemoForm {
 
     ghost ready = { λ s own. IsReady s.pieces own };
 
+    ghost lacks = { λ _. ⊥ };
+
     #[inline(always)]
-    fn feed(&mut self, at: u64, piece: &[u8]) -> Fed {
+    fn feed(&mut self, at: u64, piece: &[u8]) -> Result<Fed, NoMemory> {
         match self.mode {
-            Mode::Head if self.head.is_empty() && piece.len() >= 8 => self.front(at, piece),
-            Mode::Head => self.more_head(at, piece),
-            Mode::Payload => self.more_payload(at, piece),
-            Mode::Skip => self.skip(piece),
+            Mode::Head if self.head.is_empty() && piece.len() >= 8 => Ok(self.front(at, piece)),
+            Mode::Head => Ok(self.more_head(at, piece)),
+            Mode::Payload => Ok(self.more_payload(at, piece)),
+            Mode::Skip => Ok(self.skip(piece)),
         }
     }
 

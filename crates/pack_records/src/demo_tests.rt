@@ -80,7 +80,7 @@ fn feed(
     if piece.is_empty() || at > MOST || piece.len() > MOST {
         return Ok(0);
     }
-    let fed = form.feed(at as u64, piece);
+    let fed = form.feed(at as u64, piece)?;
     if fed.whole {
         let lent = form.record(&piece[..fed.count]);
         if seen.count == number {

@@ -129,18 +129,20 @@ impl Form for SelfForm {
 
     ghost ready = { λ f own. IsReady f.pieces own };
 
+    ghost lacks = { λ _. ⊥ };
+
     #[inline(always)]
-    fn feed(&mut self, at: u64, piece: &[u8]) -> Fed {
+    fn feed(&mut self, at: u64, piece: &[u8]) -> Result<Fed, NoMemory> {
         match self.mode {
             Mode::Fresh => match self.pieces.here_first(at, piece) {
-                Some(count) => Fed { count, whole: true },
-                None => self.begin(at, piece),
+                Some(count) => Ok(Fed { count, whole: true }),
+                None => Ok(self.begin(at, piece)),
             },
-            Mode::Within => self.go_on(at, piece),
-            Mode::Over => Fed {
+            Mode::Within => Ok(self.go_on(at, piece)),
+            Mode::Over => Ok(Fed {
                 count: piece.len(),
                 whole: false,
-            },
+            }),
         }
     }
 

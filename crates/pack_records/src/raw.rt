@@ -64,22 +64,24 @@ impl Form for RawForm {
 
     ghost ready = { λ f own. IsReady f.pieces own };
 
-    fn feed(&mut self, at: u64, piece: &[u8]) -> Fed {
+    ghost lacks = { λ _. ⊥ };
+
+    fn feed(&mut self, at: u64, piece: &[u8]) -> Result<Fed, NoMemory> {
         if self.over {
-            return Fed {
+            return Ok(Fed {
                 count: piece.len(),
                 whole: false,
-            };
+            });
         }
         match self.pieces.take(0, 0, at, piece) {
-            Taken::More => Fed {
+            Taken::More => Ok(Fed {
                 count: piece.len(),
                 whole: false,
-            },
-            Taken::Packet(count) => Fed { count, whole: true },
+            }),
+            Taken::Packet(count) => Ok(Fed { count, whole: true }),
             Taken::Bad(count) => {
                 self.over = true;
-                Fed { count, whole: true }
+                Ok(Fed { count, whole: true })
             }
         }
     }

@@ -5,6 +5,7 @@ ghost use Rattle.job_loop.specs.Samples.{LengthSettles, LengthEnds, LengthStands
 ghost use Rattle.job_loop.specs.SampleLaws.{length_grows, length_ends_grow, length_ends_once, length_settled};
 
 use crate::{Close, Fed, Form, Lent};
+use opus_io::NoMemory;
 
 /// Lends a record that lies whole in what it is fed, and keeps one that doesn't.
 #[derive(Drop)]
@@ -83,28 +84,30 @@ impl Form for LengthForm {
 
     ghost current = { λ s own. lent_record s.end s.need (take s.count s.kept) own };
 
+    ghost lacks = { λ _. ⊥ };
+
     ghost ready = { λ s own. 1 ≤ length (lent_from s.need (take s.count s.kept) own) };
 
-    fn feed(&mut self, at: u64, piece: &[u8]) -> Fed {
+    fn feed(&mut self, at: u64, piece: &[u8]) -> Result<Fed, NoMemory> {
         if self.count < self.need {
-            return self.go_on(at, piece);
+            return Ok(self.go_on(at, piece));
         }
         let need = usize::from(piece[0]) + 1;
         self.count = 0;
         if need > piece.len() {
             self.need = need;
             self.keep(piece);
-            return Fed {
+            return Ok(Fed {
                 count: piece.len(),
                 whole: false,
-            };
+            });
         }
         self.need = 0;
         self.end = at + need as u64;
-        Fed {
+        Ok(Fed {
             count: need,
             whole: true,
-        }
+        })
     }
 
     fn record<'a>(&'a self, own: &'a [u8]) -> Lent<'a, u64> {

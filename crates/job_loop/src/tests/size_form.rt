@@ -5,6 +5,7 @@ ghost use Rattle.job_loop.specs.Samples.{size_record, SizeSettles, SizeEnds};
 ghost use Rattle.job_loop.specs.SampleLaws.{size_grows, size_ends_grow, size_ends_once};
 
 use crate::{Close, Fed, Form, Lent, Numbers};
+use opus_io::NoMemory;
 
 impl Numbers for u64 {
     ghost fits = { λ _ _. Unit {0} };
@@ -40,13 +41,15 @@ impl Form for SizeForm {
 
     ghost current = { λ s _. size_record s.size };
 
+    ghost lacks = { λ _. ⊥ };
+
     ghost ready = { λ _ _. Unit {0} };
 
-    fn feed(&mut self, _: u64, piece: &[u8]) -> Fed {
-        Fed {
+    fn feed(&mut self, _: u64, piece: &[u8]) -> Result<Fed, NoMemory> {
+        Ok(Fed {
             count: piece.len(),
             whole: false,
-        }
+        })
     }
 
     fn record<'a>(&'a self, own: &'a [u8]) -> Lent<'a, u64> {

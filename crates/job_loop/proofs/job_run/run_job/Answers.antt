@@ -64,11 +64,16 @@ returns-clause-cause g c =
     let first = c.over-gathered.result in
     let last = c.run_opened-ending.new.out in
     let result = c.run_opened-ending.result in
-    let lacks = g.J.RecordJob.lacks c.args.job.now in
+    let lacks = g.J.RecordJob.lacks c.args.job.now ⊎ g.F.Form.lacks (g.F.Form.layout c.args.form) in
+    let lacking = λ (f : g.row.F.Denot). g.J.RecordJob.lacks c.args.job.now ⊎ g.F.Form.lacks (g.F.Form.layout f) in
     let untouched = c.run_opened-ending.new.source ≡ c.args.source.now in
     let name = sym (c.into_inner.ensures.name ∙ c.run_opened-ending.ensures.onward.same ∙ c.over-gathered.ensures.name) in
     let same : inner_sink last ≡ c.out-1.given.0 = search rules in
-    let cause = reason_longer (is_write_fault result) (is_no_memory result) lacks untouched _ _ _ _ c.run_opened-ending.ensures.cause in
+    let counts = λ (Reason : Type 0). Causes (is_write_fault result) (is_no_memory result) Reason
+    (g.O.Sink.faults (inner_sink first)) (g.O.Sink.faults (inner_sink last)) (g.O.Sink.refusals (inner_sink first))
+    (g.O.Sink.refusals (inner_sink last)) in
+    let same_form = subst (λ (f : g.row.F.Denot). counts (lacking f)) c.new-2.ensures.form c.run_opened-ending.ensures.cause in
+    let cause = reason_longer (is_write_fault result) (is_no_memory result) lacks untouched _ _ _ _ same_form in
     subst (λ (o : g.row.O.Denot). Causes (is_write_fault result) (is_no_memory result) (lacks ⊎ untouched)
     (g.O.Sink.faults c.args.out.now) (g.O.Sink.faults o) (g.O.Sink.refusals c.args.out.now) (g.O.Sink.refusals o)) same
     (subst (λ (o : g.row.O.Denot). Causes (is_write_fault result) (is_no_memory result) (lacks ⊎ untouched)

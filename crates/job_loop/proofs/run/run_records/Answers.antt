@@ -1,7 +1,10 @@
 use Rattle.std.proofs.Common.{◌≡◌, ℕ, ◌<◌, List, [], ◌∷◌, ◌++◌, length, refl, sym, ap, ◌∙◌, subst, arith, rules}
 use Rattle.std.specs.Io.KnownBytes.{Keeps}
 use Rattle.opus_io.specs.Reader.{ReaderState, coming}
+use Rattle.std.proofs.KnownBytes.{Keeps-refl}
+use Rattle.opus_io.specs.declared.sink.SinkStop.TheVariants.{NoMemory}
 use Rattle.opus_io.proofs.Onward.{Onward-still, Onward-trans}
+use Rattle.job_loop.specs.declared.ending.Ending.TheVariants as endings
 use Rattle.job_loop.specs.Telling.{Goes}
 use Rattle.job_loop.specs.Turns.{still}
 use Rattle.job_loop.proofs.Reached.{reached_start, reached_part, reached_record, reached_read, within_moved, still_moved, still_read}
@@ -209,6 +212,18 @@ returns-in-Past-clause-ran g c = λ before opens.
     (subst (λ l. g.F.Form.settles l p.front p.records) (e.same ∙ i.layout)
     (g.met.F.Form.settled c.next.new.self.form p.front p.records (e.turn p.front p.records p.stands p.size)))
     c.close.result (c.close.ensures.closes p.kept p.job)
+
+pub returns-in-NoMemory-clause-ran : goal.returns-in-NoMemory-clause-ran
+returns-in-NoMemory-clause-ran g c = λ before opens.
+    let i = c.records.invariant in
+    let l = g.F.Form.layout c.args.records.now.form in
+    let p = i.reached before opens in
+    turn_unwritten (g.F.Form.settles l) (g.F.Form.ends l) g.F.Form.place c.args.records.now.reader.limit
+    (g.S.Source.left c.records.source) c.records.records.reader c.next.new.self.reader i.within i.limit p
+    (g.J.RecordJob.meaning c.records.job) i.meaning (g.O.Sink.contents c.records.out) (g.O.Gather.held c.records.out)
+    (subst (λ l. g.F.Form.settles l p.front p.records) i.layout
+    (g.met.F.Form.settled c.records.records.form p.front p.records p.stands))
+    (Keeps-refl (g.O.Sink.contents c.records.out)) NoMemory endings.NoMemory refl
 
 pub returns-in-End-clause-ran : goal.returns-in-End-clause-ran
 returns-in-End-clause-ran g c = λ before opens.
