@@ -32,17 +32,18 @@ where
     requires most { limit ≤ 2 ^ 40 }
     requires stands { F.stands records [] [] }
     requires start { J.stands job.old (J.meaning job.old).start }
-    // Want of memory comes only where the job may run out, nothing was read, or the sink refused to grow.
+    // Want of memory comes only where the job or the form may run out, nothing was read, or the sink refused to grow.
     ensures { MeaningEnds R.tells F.place (J.meaning job.old)
         (F.settles (F.layout records)) (F.ends (F.layout records)) limit
         (seen_as (S.left source.old) (S.faults source.old) (O.contents out.old) (O.faults out.old) (O.refusals out.old))
         (seen_as (S.left source.new) (S.faults source.new) (O.contents out.new) (O.faults out.new) (O.refusals out.new))
-        (J.lacks job.old ⊎ source.new ≡ source.old) result }
+        ((J.lacks job.old ⊎ F.lacks (F.layout records)) ⊎ source.new ≡ source.old) result }
 {
     ending_of(run_job(alloc, limit, records, job, source, out))
 }
 
-/// The same for a job whose own memory was taken before, if there was some, and that takes no more.
+/// The same for a form that takes no more memory and a job whose own was taken before, if there was some, and that takes
+/// no more either.
 pub fn run_made<F, J, R, S, O>(
     alloc: Global,
     limit: u64,
@@ -62,6 +63,7 @@ where
     requires stands { F.stands records [] [] }
     requires start { IfOk made (λ j. J.stands j (J.meaning j).start) }
     requires spared { IfOk made (λ j. J.lacks j → ⊥) }
+    requires form_spared { F.lacks (F.layout records) → ⊥ }
     // Want of memory comes only where nothing was read, or the sink refused to grow.
     ensures { (m : Meaning (Shown F.Record) J.Kept F.Cut R) → IfOk made (λ j. J.meaning j ≡ m)
         → MeaningEnds R.tells F.place m (F.settles (F.layout records)) (F.ends (F.layout records)) limit

@@ -108,6 +108,7 @@ where
     requires kind { IsPackKind job.now.kind }
     requires stands { IfOk records (λ f. F.stands f [] []) }
     requires place { F.place ≡ place_of }
+    requires form_spared { (layout : F.Layout) → F.lacks layout → ⊥ }
     ensures { (layout : F.Layout) → IfOk records (λ f. F.layout f ≡ layout) → F.settles layout [] []
         → JobEnds job.now (F.settles layout) (F.ends layout) limit
         (seen_as (S.left source.old) (S.faults source.old) (O.contents out.old) (O.faults out.old) (O.refusals out.old))
@@ -138,6 +139,7 @@ where
     requires kind { IsPackKind job.now.kind }
     requires stands { F.stands records [] [] }
     requires place { F.place ≡ place_of }
+    requires form_spared { (layout : F.Layout) → F.lacks layout → ⊥ }
     ensures { JobEnds job.now (F.settles (F.layout records)) (F.ends (F.layout records)) limit
         (seen_as (S.left source.old) (S.faults source.old) (O.contents out.old) (O.faults out.old) (O.refusals out.old))
         (seen_as (S.left source.new) (S.faults source.new) (O.contents out.new) (O.faults out.new) (O.refusals out.new))
@@ -187,6 +189,7 @@ where
     requires most { limit ≤ 2 ^ 40 }
     requires stands { F.stands records [] [] }
     requires place { F.place ≡ place_of }
+    requires form_spared { (layout : F.Layout) → F.lacks layout → ⊥ }
     requires start { IfOk made (λ j. J.stands j (J.meaning j).start) }
     requires spared { IfOk made (λ j. J.lacks j → ⊥) }
     ensures { (m : Meaning (Shown Item) J.Kept Cut Refusal) → IfOk made (λ j. J.meaning j ≡ m)
