@@ -109,7 +109,7 @@ is_of_streams job streams = option_map_or (λ n. n == streams) job.streams false
 abbrev pub is_built_of : JobKind → Job → Bool
 is_built_of Norm job = is_of_streams job 1
 is_built_of Check job = is_of_streams job 1
-is_built_of Show job = false
+is_built_of Show job = is_of_streams job 1
 is_built_of Merge job = true
 is_built_of Split job = true
 is_built_of Pad job = true
@@ -118,9 +118,9 @@ is_built_of Join job = false
 is_built_of Extract job = false
 is_built_of Head job = true
 is_built_of Send job = true
-is_built_of Recv job = false
-is_built_of Replay job = false
-is_built_of Sdp job = false
+is_built_of Recv job = true
+is_built_of Replay job = true
+is_built_of Sdp job = true
 is_built_of Make job = true
 is_built_of Trial job = true
 

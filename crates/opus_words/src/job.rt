@@ -47,7 +47,7 @@ impl Job {
         match self.kind {
             JobKind::Norm => self.is_of_streams(1),
             JobKind::Check => self.is_of_streams(1),
-            JobKind::Show => false,
+            JobKind::Show => self.is_of_streams(1),
             JobKind::Merge => true,
             JobKind::Split => true,
             JobKind::Pad => true,
@@ -56,9 +56,9 @@ impl Job {
             JobKind::Extract => false,
             JobKind::Head => true,
             JobKind::Send => true,
-            JobKind::Recv => false,
-            JobKind::Replay => false,
-            JobKind::Sdp => false,
+            JobKind::Recv => true,
+            JobKind::Replay => true,
+            JobKind::Sdp => true,
             JobKind::Make => true,
             JobKind::Trial => true,
         }

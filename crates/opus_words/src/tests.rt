@@ -88,6 +88,25 @@ fn takes_send_with_defaults_and_greatest_numbers(rt: HostRuntime) -> Result<(), 
 }
 
 #[test]
+fn takes_show_recv_replay_and_sdp(rt: HostRuntime) -> Result<(), Fail> {
+    let mut show = NORM;
+    show.kind = JobKind::Show;
+    show.form = Some(Form::SelfDelimited);
+    show.padding = None;
+    assert_eq!(rt; answer(rt.alloc(), "show --form self")?, Ok(show));
+    let mut replay = SEND;
+    (replay.kind, replay.pt, replay.seq) = (JobKind::Replay, None, None);
+    (replay.stamp, replay.ssrc) = (None, None);
+    assert_eq!(rt; answer(rt.alloc(), "replay")?, Ok(replay));
+    let mut recv = replay;
+    (recv.kind, recv.pt, recv.ssrc) = (JobKind::Recv, Some(0), Some(1));
+    assert_eq!(rt; answer(rt.alloc(), "recv --pt 0 --ssrc 1")?, Ok(recv));
+    replay.kind = JobKind::Sdp;
+    assert_eq!(rt; answer(rt.alloc(), "sdp")?, Ok(replay));
+    Ok(())
+}
+
+#[test]
 fn takes_split_with_its_frames(rt: HostRuntime) -> Result<(), Fail> {
     let rows = [
         ("split", Form::Demo, 1),
@@ -191,13 +210,10 @@ extract --streams 2 --stream 2 = Value(Stream)
 norm --form self --streams 2 = Value(Streams)
 norm --streams 2 = NotBuilt
 check --streams 2 = NotBuilt
-show --form self = NotBuilt
+show --streams 2 = NotBuilt
 apart --streams 255 = NotBuilt
 join --streams 1 = NotBuilt
 extract --streams 255 --stream 254 = NotBuilt
-recv --pt 0 --ssrc 0 = NotBuilt
-replay = NotBuilt
-sdp = NotBuilt
 ";
 
 #[test]
