@@ -4,7 +4,9 @@ pub mod RunLemmas
 pub mod RecordLemmas
 pub mod EachLemmas
 pub mod PieceLemmas
+pub mod PacketLineLemmas
 pub mod PadLemmas
+pub mod ShowLemmas
 pub mod SplitLemmas
 pub mod MergeLemmas
 pub mod GroupKinds

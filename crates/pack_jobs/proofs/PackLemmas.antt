@@ -21,6 +21,7 @@ use Rattle.job_ends.proofs.EndsLemmas.{unstarted_ends}
 use Rattle.pack_jobs.specs.Refusal.{Tells}
 use Rattle.pack_jobs.specs.Norm.{norm}
 use Rattle.pack_jobs.specs.Check.{check}
+use Rattle.pack_jobs.specs.Show.{show}
 use Rattle.pack_jobs.specs.Merge.{merge}
 use Rattle.pack_jobs.specs.Split.{split}
 use Rattle.pack_jobs.specs.Pad.{pad}
@@ -34,7 +35,7 @@ pub unstarted_kind : (kind : JobKind) → IsPackKind kind → (job : Job)
     → KindEnds kind job Settles Ends limit outside outside Untouched NoMemory
 unstarted_kind kinds.Norm is job = unstarted_ends Tells place_of (norm (form_in job) (padding_in job))
 unstarted_kind kinds.Check is job = unstarted_ends Tells place_of (check (form_in job))
-unstarted_kind kinds.Show is job = absurd is
+unstarted_kind kinds.Show is job = unstarted_ends Tells place_of show
 unstarted_kind kinds.Merge is job = unstarted_ends Tells place_of (merge (form_in job) job.group)
 unstarted_kind kinds.Split is job = unstarted_ends Tells place_of (split (form_in job) (most_in job))
 unstarted_kind kinds.Pad is job = unstarted_ends Tells place_of (pad (form_in job) (size_in job))

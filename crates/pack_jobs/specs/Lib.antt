@@ -6,6 +6,9 @@ pub mod Check
 pub mod CheckStands
 pub mod Written
 pub mod Each
+pub mod PacketLines
+pub mod Show
+pub mod ShowStands
 pub mod Pad
 pub mod PadStands
 pub mod Split

@@ -8,7 +8,7 @@ use Rattle.opus_feed.specs.declared.padding.Padding.TheVariants.{Drop}
 use Rattle.opus_words.specs.declared.form.Form.{Form}
 use Rattle.opus_words.specs.declared.form.Form.TheVariants.{Raw, Demo, SelfDelimited}
 use Rattle.opus_words.specs.declared.kind.JobKind.{JobKind}
-use Rattle.opus_words.specs.declared.kind.JobKind.TheVariants.{Norm, Check, Merge, Split, Pad}
+use Rattle.opus_words.specs.declared.kind.JobKind.TheVariants.{Norm, Check, Show, Merge, Split, Pad}
 use Rattle.opus_words.specs.declared.job.Job.{Job}
 use Rattle.opus_words.specs.declared.ending.Ending.{Ending}
 use Rattle.job_ends.specs.Ends as ends
@@ -21,6 +21,7 @@ use Rattle.pack_jobs.specs.declared.refusal.Refusal.{Refusal}
 use Rattle.pack_jobs.specs.Refusal.{Tells}
 use Rattle.pack_jobs.specs.Norm.{norm}
 use Rattle.pack_jobs.specs.Check.{check}
+use Rattle.pack_jobs.specs.Show.{show}
 use Rattle.pack_jobs.specs.Merge.{merge}
 use Rattle.pack_jobs.specs.Split.{split}
 use Rattle.pack_jobs.specs.Pad.{pad}
@@ -29,6 +30,7 @@ use Rattle.pack_jobs.specs.Pad.{pad}
 abbrev pub IsPackKind : JobKind → Type 0
 IsPackKind Norm = Unit {0}
 IsPackKind Check = Unit {0}
+IsPackKind Show = Unit {0}
 IsPackKind Merge = Unit {0}
 IsPackKind Split = Unit {0}
 IsPackKind Pad = Unit {0}
@@ -69,6 +71,7 @@ abbrev pub KindEnds : JobKind → Job → (List ℕ → List (Shown Item) → Ty
     → (List ℕ → List (Shown Item) → Option Cut → Type 0) → ℕ → Outside → Outside → Type 0 → Ending → Type 0
 KindEnds Norm job = MeaningEnds (norm (form_in job) (padding_in job))
 KindEnds Check job = MeaningEnds (check (form_in job))
+KindEnds Show job = MeaningEnds show
 KindEnds Merge job = MeaningEnds (merge (form_in job) job.group)
 KindEnds Split job = MeaningEnds (split (form_in job) (most_in job))
 KindEnds Pad job = MeaningEnds (pad (form_in job) (size_in job))

@@ -126,7 +126,7 @@ fn write_word<O: Sink>(count: u64, word: &[u8], out: &mut O) -> Result<(), SinkS
         (O.refusals out.old) (O.refusals out.new) result }
     ensures onward { Onward (O.onto out.old) (O.onto out.new) (O.handed out.old) (O.handed out.new) }
 {
-    let mut line = Line::new();
+    let mut line = Line::<64>::new();
     line.piece(b"\n");
     line.piece(word);
     line.piece(b" ");

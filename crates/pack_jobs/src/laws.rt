@@ -23,6 +23,7 @@ ghost use Rattle.pack_jobs.specs.Check.{check};
 ghost use Rattle.pack_jobs.specs.Written.{normal_record, AreTaken, FirstRefused, AreGood, FirstBad, lines_from, IsUncut};
 ghost use Rattle.pack_jobs.specs.SameRecords.{AreRecordsOf, AgreeOneByOne};
 ghost use Rattle.pack_jobs.specs.Each.{Made, each, texts_from, AreWritten, FirstRefusedBy};
+ghost use Rattle.pack_jobs.specs.Show.{show, shown_from};
 ghost use Rattle.pack_jobs.specs.Split.{pieces, split_record, split, HasFullPieces};
 ghost use Rattle.pack_jobs.specs.Merge.{merge};
 ghost use Rattle.pack_jobs.specs.Groups.{Part, IsCutInto, CanAllMerge, values_of, frames_of, texts_of, part_frames, AreLent};
@@ -80,6 +81,16 @@ pub fn a_job_on_each_record_writes_them_in_order()
     ensures cut { (made : ℕ → Shown Item → Made) (rs : List (Shown Item)) (c : Cut) → AreWritten made 0 rs
         → outcome (each made) rs (ends.Cut c)
         ≡ broke (texts_from made 0 rs) (refusal_of (told (length rs)) c.place StoreCut) }
+{}
+
+/// What show writes is the lines of each record, of a lost one too, up to the first record that holds no packet.
+pub fn show_writes_the_lines_of_each_record()
+    ensures written { (rs : List (Shown Item)) (end : InputEnd Cut) (text : List ℕ)
+        → (outcome show rs end ≡ going text tt) ↔ (AreGood rs × IsUncut end × (text ≡ shown_from 0 rs)) }
+    ensures refused { (rs : List (Shown Item)) (end : InputEnd Cut) (f : Refusal)
+        (at : FirstBad rs f) → outcome show rs end ≡ broke (shown_from 0 at.before) f }
+    ensures cut { (rs : List (Shown Item)) (c : Cut) → AreGood rs
+        → outcome show rs (ends.Cut c) ≡ broke (shown_from 0 rs) (refusal_of (told (length rs)) c.place StoreCut) }
 {}
 
 /// What split writes is the pieces of each packet, and each lost record, up to the first record that holds no packet.

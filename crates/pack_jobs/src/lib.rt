@@ -9,9 +9,11 @@ mod line;
 mod merge;
 mod norm;
 mod pack;
+mod packet_lines;
 mod pad;
 mod record;
 mod refusal;
+mod show;
 mod split;
 #[cfg(test)]
 mod tests;
@@ -23,5 +25,6 @@ pub use norm::Norm;
 pub use pack::pack_job;
 pub use pad::Pad;
 pub use refusal::{Refusal, Why, refusal_at};
+pub use show::Show;
 pub use split::Split;
 pub use text::{decimal_text, fault_text};

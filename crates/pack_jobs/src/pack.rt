@@ -10,6 +10,7 @@ use crate::merge::Merge;
 use crate::norm::Norm;
 use crate::pad::Pad;
 use crate::refusal::Refusal;
+use crate::show::Show;
 use crate::split::Split;
 use job_ends::run_made;
 use job_loop::{Form as RecordForm, RecordJob};
@@ -154,6 +155,10 @@ where
         JobKind::Check => {
             let check = Ok(Check::new(form));
             run_over(alloc, limit, records, check, source, out)
+        }
+        JobKind::Show => {
+            let mut show = Show::new();
+            run_ended(alloc, limit, records, &mut show, source, out)
         }
         JobKind::Merge => {
             let merge = Merge::new(alloc, form, job.group);
