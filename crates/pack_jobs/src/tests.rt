@@ -3,6 +3,7 @@ ghost use Rattle.pack_jobs.specs.PackEnds.{IsPackJob, IsPackKind};
 
 mod edges;
 mod rows;
+mod show;
 
 use crate::pack_job;
 use arrayvec::ArrayString;
@@ -22,6 +23,7 @@ enum Work {
     // Norm with its padding bytes kept.
     Keep,
     Check,
+    Show,
 }
 
 fn job(work: Work, form: Form) -> Job
@@ -31,6 +33,7 @@ fn job(work: Work, form: Form) -> Job
         Work::Norm => job_of(JobKind::Norm, form, Some(Padding::Drop)),
         Work::Keep => job_of(JobKind::Norm, form, Some(Padding::Keep)),
         Work::Check => job_of(JobKind::Check, form, None),
+        Work::Show => job_of(JobKind::Show, form, None),
     }
 }
 

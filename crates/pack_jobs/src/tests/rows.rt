@@ -5,7 +5,7 @@ use std::alloc::Global;
 use std::test::Fail;
 
 // An input, a refusal of it, if there is one, and all that is written.
-type Row = (&'static [u8], Option<Refused>, &'static [u8]);
+pub(super) type Row = (&'static [u8], Option<Refused>, &'static [u8]);
 
 const NORM: [Row; 17] = [
     (b"\xfa\x02\xaa\xbb\xcc\xdd", None, b"\xf9\xaa\xbb\xcc\xdd"),
@@ -101,7 +101,11 @@ const CHECK_DEMO: [Row; 3] = [
 ];
 
 // The first row over which the job ends otherwise, or writes another text.
-fn failing(alloc: Global, job: (Work, Form), rows: &[Row]) -> Result<Option<usize>, Fail> {
+pub(super) fn failing(
+    alloc: Global,
+    job: (Work, Form),
+    rows: &[Row],
+) -> Result<Option<usize>, Fail> {
     for (number, (input, refused, text)) in rows.iter().enumerate() {
         for step in STEPS {
             let none = ([].as_slice(), [].as_slice());
