@@ -1,7 +1,7 @@
 -- The lines of a packet: the SILK frames of a frame, and texts that are written in pieces.
-use Rattle.std.proofs.Common.{◌≡◌, ℕ, ◌+◌, ◌<◌, ◌≤◌, Bool, List, [], ◌∷◌, ◌++◌, length, Option, None, Some, sym, ap, ◌∙◌, subst, append_assoc, append-nil, codes, decimal, refl, arith}
+use Rattle.std.proofs.Common.{◌≡◌, ℕ, ◌+◌, ◌<◌, ◌≤◌, Bool, List, [], ◌∷◌, ◌++◌, length, Option, None, Some, sym, ap, ◌∙◌, subst, append_assoc, codes, decimal, refl, arith}
 use Rattle.std.specs.Io.KnownBytes.{Appends}
-use Rattle.std.proofs.KnownBytes.{Appends-nil, Appends-trans}
+use Rattle.std.proofs.KnownBytes.{Appends-trans}
 use Rattle.job_loop.specs.Telling.{Front}
 use Rattle.job_loop.proofs.RunLemmas.{Front-behind, Front-longer}
 use Rattle.opus_toc.specs.Configuration.{samples_of, mode_of, bandwidth_of}
@@ -76,9 +76,6 @@ pub record HasPut (all rest : List ℕ) (old new : Option (List ℕ)) : Type 0 w
   pub appended : Appends old new text
   pub parts : all ≡ text ++ rest
 
-pub HasPut-none : (all : List ℕ) (old : Option (List ℕ)) → HasPut all all old old
-HasPut-none all old = record { text = []; appended = Appends-nil old; parts = refl }
-
 -- the next piece of the rest
 pub HasPut-more : (all piece rest : List ℕ) (old mid new : Option (List ℕ)) → HasPut all (piece ++ rest) old mid
     → Appends mid new piece → HasPut all rest old new
@@ -94,9 +91,6 @@ pub HasPut-front : (all piece rest : List ℕ) (old mid new : Option (List ℕ))
 HasPut-front all piece rest old mid new put front =
     subst (λ l. Front l old new) (sym put.parts)
     (Front-behind put.text (piece ++ rest) old mid new put.appended (Front-longer piece rest mid new front))
-
-pub HasPut-all : (all : List ℕ) (old new : Option (List ℕ)) → HasPut all [] old new → Appends old new all
-HasPut-all all old new put = subst (Appends old new) (sym (put.parts ∙ append-nil put.text)) put.appended
 
 -- ---- the lines of frames
 
@@ -141,11 +135,3 @@ HasLines-front number stream v index left others frame config stereo old mid new
     (subst (λ l. HasPut all l old mid)
     (first_line number stream v index left others frame config stereo config_is stereo_is first) lines)
     front
-
--- where none is left, all are written
-pub HasLines-all : (number stream : ℕ) (v : PacketValue) (index : ℕ) (left : List (List ℕ)) (old new : Option (List ℕ))
-    → length left ≡ 0 → HasLines number stream v index left old new
-    → Appends old new (frame_lines number stream 0 v.config v.stereo v.frames)
-HasLines-all number stream v index [] old new none lines =
-    HasPut-all (frame_lines number stream 0 v.config v.stereo v.frames) old new lines
-HasLines-all number stream v index (frame ∷ left) old new none lines = absurd (omega (arith, none))

@@ -1,10 +1,11 @@
 -- The jobs, computed on small records.
-use Rattle.std.proofs.Common.{◌≡◌, ℕ, List, [], ◌∷◌, ◌++◌, false, Some, None, codes, decimal, ap, ◌∙◌, refl, arith}
+use Rattle.std.proofs.Common.{◌≡◌, ℕ, List, [], ◌∷◌, ◌++◌, false, true, Some, None, codes, decimal, ap, ◌∙◌, refl, arith}
+use Rattle.std.specs.Fmt.{digits}
 use Rattle.std.proofs.lemmas.Fmt.{decimal_digit}
 use Rattle.job_loop.specs.Shown.{Shown}
 use Rattle.job_loop.specs.Meaning.{going, broke, outcome}
 use Rattle.job_loop.specs.declared.input_end.InputEnd.TheVariants.{Closed, Cut, Past}
-use Rattle.opus_toc.specs.Configuration.{samples_of, row_of}
+use Rattle.opus_toc.specs.Configuration.{samples_of, mode_of, bandwidth_of, row_of}
 use Rattle.opus_packet.specs.declared.fault.Rule.TheVariants.{R5}
 use Rattle.opus_packet.specs.Canonical.{canonical}
 use Rattle.opus_packet.specs.Header.{header_bytes}
@@ -23,6 +24,8 @@ use Rattle.pack_jobs.specs.Norm.{norm}
 use Rattle.pack_jobs.specs.Merge.{merge}
 use Rattle.pack_jobs.specs.Split.{split}
 use Rattle.pack_jobs.specs.Check.{check, check_line}
+use Rattle.pack_jobs.specs.PacketLines.{kind_text, spelling_text, packet_line, frame_line}
+use Rattle.pack_jobs.specs.Show.{show}
 use Rattle.pack_jobs.specs.Written.{lines_from}
 
 -- a store: one frame AA with range 1, a lost packet with range 9, and FB 07, which lasts too long
@@ -104,6 +107,34 @@ merge_refuses_other_channels : outcome (merge Demo None) (single 1 0xAA ∷ othe
     ≡ broke [] (refusal_of 1 20 MixedKind)
 unfolding lent_value header_read header_bytes samples_of row_of
 merge_refuses_other_channels = refl
+
+-- show: packets of one frame with its flags, in mono and stereo
+show_tells_the_flags_of_mono : outcome show (record_of 0 2 0 (Packet Whole (shape_of 0 false 0) 2) (0x08 ∷ 0x40 ∷ []) ∷ []) Closed
+    ≡ going (codes "0.0: config 1 silk nb 960 samples mono, code 0, 1 frames, pad 0, 2 bytes" ++ 10 ∷ []
+    ++ codes "0.0.0: 1 bytes mid 0/1" ++ 10 ∷ []) tt
+unfolding digits kind_text spelling_text packet_line frame_line lent_value header_read header_bytes mode_of bandwidth_of samples_of row_of
+show_tells_the_flags_of_mono = refl
+
+show_tells_the_flags_of_stereo : outcome show (record_of 0 2 0 (Packet Whole (shape_of 0 false 0) 2) (0x1C ∷ 0x11 ∷ []) ∷ []) Closed
+    ≡ going (codes "0.0: config 3 silk nb 2880 samples stereo, code 0, 1 frames, pad 0, 2 bytes" ++ 10 ∷ []
+    ++ codes "0.0.0: 1 bytes mid 000/1 side 000/1" ++ 10 ∷ []) tt
+unfolding digits kind_text spelling_text packet_line frame_line lent_value header_read header_bytes mode_of bandwidth_of samples_of row_of
+show_tells_the_flags_of_stereo = refl
+
+-- FB C2 02 01 AA BB 00 00, of which the kept form is lent: two frames, and padding of three bytes with its length
+abbrev spelled : Shown Item
+spelled = record_of 8 16 0 (Packet Whole (record { code = 3; vbr = true; pad = 3 }) 8) (0xF9 ∷ 0xAA ∷ 0xBB ∷ [])
+
+show_tells_the_spelling_that_was_read : outcome show (spelled ∷ gone ∷ []) Closed
+    ≡ going (codes "0.0: config 31 celt fb 960 samples mono, code 3, 2 frames, pad 3, 8 bytes" ++ 10 ∷ []
+    ++ codes "0.0.0: 1 bytes" ++ 10 ∷ [] ++ codes "0.0.1: 1 bytes" ++ 10 ∷ [] ++ codes "1: lost" ++ 10 ∷ []) tt
+unfolding digits kind_text spelling_text packet_line frame_line lent_value header_read header_bytes mode_of bandwidth_of samples_of row_of
+show_tells_the_spelling_that_was_read = refl
+
+show_stops_at_a_bad_one : outcome show (gone ∷ long ∷ one ∷ []) Closed
+    ≡ broke (codes "0: lost" ++ 10 ∷ []) (refusal_of 1 27 (Fault (fault R5 1)))
+unfolding digits
+show_stops_at_a_bad_one = refl
 
 -- lines, with the digits of their numbers
 abbrev lines : List ℕ → List ℕ → List ℕ → List ℕ

@@ -157,8 +157,8 @@ where
             run_over(alloc, limit, records, check, source, out)
         }
         JobKind::Show => {
-            let mut show = Show::new();
-            run_ended(alloc, limit, records, &mut show, source, out)
+            let show = Ok(Show::new());
+            run_over(alloc, limit, records, show, source, out)
         }
         JobKind::Merge => {
             let merge = Merge::new(alloc, form, job.group);

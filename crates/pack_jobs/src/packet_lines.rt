@@ -11,10 +11,10 @@ use opus_io::{Sink, SinkStop, write_all};
 use opus_packet::{Packet, Shape};
 use opus_toc::{Band, Flags, Mode, Toc, flags};
 
-// Room for the line of a packet, where each number has 20 digits.
+// Room for the line of a packet in bytes, where each number has 20 digits.
 const PACKET: usize = 256;
 
-// Room for the line of a frame.
+// The same for the line of a frame.
 const FRAME: usize = 128;
 
 /// Writes the lines of a packet that is stream `stream` of record `number`, in the shape and the size in bytes that it was
@@ -93,7 +93,7 @@ fn write_frame_lines<O: Sink>(
     Ok(())
 }
 
-// Writes the line of frame `index`.
+// Writes the line of frame `index` of a packet with this TOC.
 #[tactic(auto, using(crate::proofs::PacketLineLemmas::frame_pieces))]
 fn write_frame_line<O: Sink>(
     number: u64,
@@ -133,7 +133,7 @@ fn push_stream<const N: usize>(number: u64, stream: u8, line: &mut Line<N>)
     line.number(number);
 }
 
-// Puts the words on mode, bandwidth, samples and channels before a text.
+// Puts `config C MODE BAND N samples CH` before a text.
 #[tactic(auto, using(crate::proofs::PacketLineLemmas::kind_before))]
 fn push_kind<const N: usize>(toc: Toc, line: &mut Line<N>)
     requires { 74 + length line.old ≤ N }
@@ -152,7 +152,7 @@ fn push_kind<const N: usize>(toc: Toc, line: &mut Line<N>)
     line.piece(b"config ");
 }
 
-// Puts the words on the spelling of a packet of so many frames before a text.
+// Puts `code X, M frames, pad P, B bytes` before a text.
 #[tactic(auto, using(crate::proofs::PacketLineLemmas::spelling_before))]
 fn push_spelling<const N: usize>(shape: Shape, count: usize, size: u32, line: &mut Line<N>)
     requires { 108 + length line.old ≤ N }
@@ -213,7 +213,7 @@ fn push_channel<const N: usize>(name: &[u8], count: u8, vad: u8, lbrr: bool, lin
     requires count { count ≤ 8 }
     requires room { 10 + length name.now + length line.old ≤ N }
     ensures text { line.new ≡ channel_text name.now count vad lbrr ++ line.old }
-    ensures size { length line.new ≤ 10 + length name.now + length line.old }
+    ensures most { length line.new ≤ 10 + length name.now + length line.old }
 {
     line.piece(if lbrr { b"1" } else { b"0" });
     line.piece(b"/");
