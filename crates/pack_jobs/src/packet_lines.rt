@@ -19,7 +19,7 @@ const FRAME: usize = 128;
 
 /// Writes the lines of a packet that is stream `stream` of record `number`, in the shape and the size in bytes that it was
 /// spelled in.
-pub(crate) fn write_packet_lines<O: Sink>(
+pub fn write_packet_lines<O: Sink>(
     number: u64,
     stream: u8,
     shape: Shape,

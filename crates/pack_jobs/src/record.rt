@@ -19,7 +19,7 @@ const FRONT: usize = 106;
 
 /// Writes the bytes of a packet, or none, as a record of this form.
 #[inline(always)]
-pub(crate) fn write_record<O: Sink>(
+pub fn write_record<O: Sink>(
     form: Form,
     range: u32,
     bytes: &[u8],
@@ -44,7 +44,7 @@ pub(crate) fn write_record<O: Sink>(
 /// Writes a packet in its canonical form as a record of this form, in two pieces: what stands before the frames, and
 /// the frames.
 #[inline(always)]
-pub(crate) fn write_packet<O: Sink>(
+pub fn write_packet<O: Sink>(
     form: Form,
     range: u32,
     packet: &Packet<'_>,
