@@ -1,4 +1,4 @@
--- What a line says in which there is no fault, which no public clause cites.
+-- What a line says in which there is no fault.
 use Rattle.std.specs.Prelude.{List, ℕ, map}
 use Rattle.opus_sdp.specs.Number.{value_of}
 use Rattle.opus_sdp.specs.Params.{fmtp_of}

@@ -18,6 +18,10 @@ joined texts = flat_map ended texts
 abbrev pub line_at : ℕ → ℕ → List ℕ → Shown Line
 line_at start place text = record { item = record { start = start; place = place }; bytes = text }
 
+-- where a line was decided
+abbrev pub place_of : Shown Line → ℕ
+place_of r = r.item.place
+
 -- whole lines, of which the first begins there
 abbrev pub lines_at : ℕ → List (List ℕ) → List (Shown Line)
 lines_at start [] = []

@@ -116,7 +116,7 @@ impl LineForm {
 }
 
 impl Form for LineForm {
-    ghost use Rattle.text_jobs.specs.Lines.{LineSettles, LineEnds};
+    ghost use Rattle.text_jobs.specs.Lines.{place_of, LineSettles, LineEnds};
     ghost use Rattle.text_jobs.specs.LineLaws.{line_settled, line_grows, line_ends_grow, line_ends_once};
     ghost use Rattle.text_jobs.specs.LineForm.{LineStands, lent_in, rest_in, shown_by};
 
@@ -132,7 +132,7 @@ impl Form for LineForm {
 
     ghost ends = { λ _. LineEnds };
 
-    ghost place = { λ r. r.item.place };
+    ghost place = { place_of };
 
     ghost stands = { λ f. LineStands f.start (rest_in f.mode f.kept.items) };
 
