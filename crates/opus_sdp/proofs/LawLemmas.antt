@@ -21,12 +21,12 @@ use Rattle.opus_sdp.proofs.NewlineLemmas.{fmtp-line, rtpmap-line}
 
 -- which kind
 
-rtpmap-begins : (r : Rtpmap) (line : List ℕ) → IsRtpmapLine r line → begins_with (codes "a=rtpmap:") line ≡ true
+pub rtpmap-begins : (r : Rtpmap) (line : List ℕ) → IsRtpmapLine r line → begins_with (codes "a=rtpmap:") line ≡ true
 rtpmap-begins r line is =
     (bytes_eq-Decides (take 9 line) (codes "a=rtpmap:")).1
     (ap (take 9) is.spelled ∙ take-append_seam (codes "a=rtpmap:") (decimal r.payload_type ++ (is.between ++ (is.codec ++ is.after))))
 
-fmtp-begins : (m : Fmtp) (line : List ℕ) → IsFmtpLine m line → begins_with (codes "a=rtpmap:") line ≡ false
+pub fmtp-begins : (m : Fmtp) (line : List ℕ) → IsFmtpLine m line → begins_with (codes "a=rtpmap:") line ≡ false
 fmtp-begins m line is = ap (begins_with (codes "a=rtpmap:")) is.spelled
 
 other_kind : (r : Rtpmap) (m : Fmtp) (line : List ℕ) → IsRtpmapLine r line → IsFmtpLine m line → ⊥
