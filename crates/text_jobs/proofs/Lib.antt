@@ -1,2 +1,4 @@
 pub mod LineLemmas
 pub mod SdpLemmas
+pub mod AgainLemmas
+pub mod StandardFacts

@@ -1,17 +1,17 @@
 -- From bytes that the machine is fed to lines.
-use Rattle.std.proofs.Common.{◌≡◌, ℕ, zero, suc, ◌+◌, ◌-◌, ◌<◌, ◌≤◌, true, false, not, ◌==◌, slice_index, List, [], ◌∷◌, ◌++◌, length, take, length-append, length-take-le, refl, sym, ap, ◌∙◌, subst, append_assoc, append-nil, None, arith}
-use Rattle.std.specs.List.{list_all, flat_map}
+use Rattle.std.proofs.Common.{◌≡◌, ℕ, zero, suc, ◌+◌, ◌-◌, ◌<◌, ◌≤◌, true, false, not, ◌==◌, slice_index, List, [], ◌∷◌, ◌++◌, length, take, length-append, refl, sym, ap, ◌∙◌, subst, append_assoc, append-nil, None, arith}
+use Rattle.std.specs.List.{list_all}
 use Rattle.std.proofs.Math.Seq.{take-append_seam}
 use Rattle.std.proofs.lemmas.List.{take_all, take_more}
 use Rattle.std.proofs.lemmas.List.Concat.{flat_map-append}
-use Rattle.std.proofs.lemmas.Bool.{and_parts, and_from}
+use Rattle.std.proofs.lemmas.Bool.{and_from}
 use Rattle.std.proofs.lemmas.Bool.Decides.{nat_tests}
 use Rattle.std.proofs.lemmas.List.Folds.{list_all-append}
 use Rattle.memchr.specs.Find.{is_byte}
 use Rattle.job_loop.specs.Shown.{Shown}
 use Rattle.opus_sdp.specs.Text.{is_line}
 use Rattle.text_jobs.specs.declared.line.Line.{Line}
-use Rattle.text_jobs.specs.Lines.{ended, joined, line_at, lines_at, LineFront, last_line, LineEnds}
+use Rattle.text_jobs.specs.Lines.{ended, joined, line_at, lines_at, last_line, LineEnds}
 use Rattle.text_jobs.specs.LineForm.{LineStands}
 
 -- ---- where a newline stands

@@ -1,5 +1,5 @@
 -- What the machine of lines stands for.
-use Rattle.std.specs.Prelude.{◌≡◌, ℕ, ◌-◌, List, [], ◌∷◌, length, take}
+use Rattle.std.specs.Prelude.{◌≡◌, ℕ, ◌-◌, List, [], length, take}
 use Rattle.job_loop.specs.Shown.{Shown}
 use Rattle.text_jobs.specs.declared.line.Line.{Line}
 use Rattle.text_jobs.specs.declared.lines.Mode.{Mode}

@@ -4,12 +4,15 @@
 //! Opus in one form (RFC 7587, 6 and 7).
 #![tactic(auto)]
 
+pub mod laws;
 mod line;
 mod lines;
 mod print;
 mod refusal;
 mod run;
 mod sdp;
+#[cfg(test)]
+mod tests;
 
 pub use line::{Line, NoCut};
 pub use lines::LineForm;

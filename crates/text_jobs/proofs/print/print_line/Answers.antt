@@ -1,4 +1,4 @@
-use Rattle.std.proofs.Common.{◌≡◌, [], ◌∷◌, ◌++◌, sym, ap, ◌∙◌}
+use Rattle.std.proofs.Common.{[], ◌∷◌, ◌++◌, sym, ap, ◌∙◌}
 use Rattle.opus_sdp.specs.SdpLine.{OfRtpmap, OfFmtp, sdp_text}
 use Rattle.opus_sdp.proofs.LawLemmas.{no_fault}
 use Rattle.text_jobs.proofs.SdpLemmas.{says}

@@ -1,5 +1,4 @@
-use Rattle.std.proofs.Common.{◌≡◌, ℕ, ◌+◌, ◌-◌, ◌≤◌, List, [], ◌∷◌, ◌++◌, IsTrue, length, take, refl, sym, ap, ◌∙◌, subst, length-take-le, arith}
-use Rattle.job_loop.specs.Shown.{Shown}
+use Rattle.std.proofs.Common.{◌≡◌, ℕ, ◌+◌, ◌-◌, List, [], ◌∷◌, ◌++◌, IsTrue, length, take, sym, ap, ◌∙◌, subst, length-take-le, arith}
 use Rattle.opus_sdp.specs.Text.{is_line}
 use Rattle.text_jobs.specs.declared.line.Line.{Line}
 use Rattle.text_jobs.specs.Lines.{ended, line_at}
