@@ -5,3 +5,6 @@ pub mod SendLemmas
 pub mod PacketsLemmas
 pub mod StoreLemmas
 mod StandardFacts
+pub mod TellLemmas
+pub mod ReceiveLemmas
+pub mod MissingLemmas

@@ -4,3 +4,9 @@ pub mod Send
 pub mod SendStands
 pub mod NetEnds
 pub mod Given
+pub mod Arrive
+pub mod Tell
+pub mod Receive
+pub mod ReceiveStands
+pub mod CaptureRefusal
+pub mod Sorts

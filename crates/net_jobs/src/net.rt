@@ -6,10 +6,15 @@ ghost use Rattle.pack_records.specs.Demo.{DemoSettles, DemoEnds};
 ghost use Rattle.job_ends.specs.Ends.{seen_as};
 ghost use Rattle.pack_jobs.specs.PackEnds.{MeaningEnds};
 ghost use Rattle.net_jobs.specs.Send.{send};
-ghost use Rattle.net_jobs.specs.NetEnds.{IsNetJob, NetEnds, first_in};
+ghost use Rattle.net_jobs.specs.Receive.{receive};
+ghost use Rattle.net_jobs.specs.NetEnds.{IsNetJob, NetEnds, ReceiveEnds, first_in, asked_in};
 
+use crate::events::Telling;
+use crate::receive::ReceiveJob;
 use crate::send::SendJob;
-use job_ends::run_made;
+use crate::stream::Asked;
+use dump_records::DumpForm;
+use job_ends::{run_made, run_told};
 use opus_feed::Padding;
 use opus_io::{NoMemory, Sink, Source};
 use opus_words::{Ending, Job, JobKind};
@@ -19,7 +24,8 @@ use std::alloc::Global;
 
 /// Does a job over RTP: reads `source` up to `limit` bytes, from 1 to 2^40, and writes to `out`.
 ///
-/// What the bytes read settle is written before the next read. All memory is taken before the first read.
+/// What the bytes read settle is written before the next read. `send` takes all memory before the first read; `recv` and
+/// `replay` take that of packets and their events as they arrive.
 pub fn net_job<S: Source, O: Sink>(
     alloc: Global,
     job: &Job,
@@ -37,6 +43,8 @@ pub fn net_job<S: Source, O: Sink>(
 {
     match job.kind {
         JobKind::Send => run_send(alloc, sender_in(job), limit, source, out),
+        JobKind::Recv => run_receive(alloc, Telling::Store, asked_in(job), limit, source, out),
+        JobKind::Replay => run_receive(alloc, Telling::Lines, asked_in(job), limit, source, out),
         _ => unreachable!(),
     }
 }
@@ -53,6 +61,16 @@ fn sender_in(job: &Job) -> Sender
         job.ssrc.unwrap_or(0),
         job.pt.unwrap_or(96),
     )
+}
+
+// The streams that the options ask for.
+fn asked_in(job: &Job) -> Asked
+    ensures { result ≡ asked_in job.now }
+{
+    Asked {
+        payload_type: job.pt,
+        ssrc: job.ssrc,
+    }
 }
 
 // Runs the job send with this sender, which was given nothing yet.
@@ -76,6 +94,31 @@ fn run_send<S: Source, O: Sink>(
             let job = SendJob::new(alloc, sender);
             run_made(alloc, limit, records, job, source, out)
         }
+        Err(NoMemory) => Ending::NoMemory,
+    }
+}
+
+// Runs recv or replay over a capture.
+fn run_receive<S: Source, O: Sink>(
+    alloc: Global,
+    telling: Telling,
+    asked: Asked,
+    limit: u64,
+    source: &mut S,
+    out: &mut O,
+) -> Ending
+    requires some { 1 ≤ limit }
+    requires most { limit ≤ 2 ^ 40 }
+    ensures { ReceiveEnds (receive telling asked) limit
+        (seen_as (S.left source.old) (S.faults source.old) (O.contents out.old) (O.faults out.old) (O.refusals out.old))
+        (seen_as (S.left source.new) (S.faults source.new) (O.contents out.new) (O.faults out.new) (O.refusals out.new))
+        result }
+{
+    let Ok(records) = DumpForm::new(alloc) else {
+        return Ending::NoMemory;
+    };
+    match ReceiveJob::new(alloc, telling, asked) {
+        Ok(mut job) => run_told(alloc, limit, records, &mut job, source, out),
         Err(NoMemory) => Ending::NoMemory,
     }
 }

@@ -1,5 +1,7 @@
-//! The job send by itself, over packets that are lent in other forms than the canonical one.
+//! The job send by itself, over packets that are lent in other forms than the canonical one; recv and replay.
 ghost use Rattle.std.specs.Prelude.{[]};
+
+mod receive;
 
 use crate::{SendJob, net_job};
 use job_loop::{Ending as LoopEnding, Form, run_job};

@@ -1,0 +1,9 @@
+use Rattle.net_jobs.specs.Receive.{receive}
+use Rattle.net_jobs.proofs.NetLemmas.{receive_unstarted}
+use Rattle.net_jobs.proofs.net.run_receive.Goals as goal
+
+pub returns-in_default : goal.returns-in_default
+returns-in_default g c = receive_unstarted (receive c.args.telling c.args.asked) c.args.limit _
+
+pub returns-in-Err : goal.returns-in-Err
+returns-in-Err g c = receive_unstarted (receive c.args.telling c.args.asked) c.args.limit _
