@@ -16,6 +16,6 @@ returns-clause-took c = λ k is.
     arrived s _ k (stream_of (rtp_value c.args.packet)) x c.in_ok-answer.answer is
     (subst (λ (es : List Event). HasArrived c.arrive.new.self k.heard x c.in_ok-answer.answer es c.arrive.new.out.items)
     c.requires.none (c.in_ok-answer.ensures.ok k.heard is.receiver))
-    ?
+    c.add_arrival.ensures.is
     (ap Some (c.unwrap_or.ensures ∙ ap (unwrap_or s.chosen) c.stream_of.ensures))
     (c.add_missing-self.ensures ∙ ap (λ (es : List Event). told (s.missing + missing_in es)) c.deref.ensures.value)
