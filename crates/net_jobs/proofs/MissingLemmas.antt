@@ -56,8 +56,7 @@ all_after low greatest (h ∷ hs) high more =
     let p = place_after greatest h.seq in
     let is = near greatest h.seq (omega arith) in
     let above = is.above in
-    let within = is.within in
-    (
+    let within = is.within in (
       record { above = omega arith; within = omega arith },
       AllIn-wider low (max greatest p + 32768 * length hs) (greatest + 32768 * length (h ∷ hs)) (placed_after (max greatest p) hs)
           (omega arith) (all_after low (max greatest p) hs high (omega arith)),

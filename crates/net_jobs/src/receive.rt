@@ -91,12 +91,9 @@ impl ReceiveJob {
         ensures took { OnOk result ((k : Reception) → ReceiveStands self.old k
             → TookRecord self.new k (after k (arrival_of (rtp_value packet.entry)))) }
     {
-        let answer = self.receiver.arrive(
-            packet.seq,
-            packet.stamp,
-            packet.payload,
-            &mut self.events,
-        )?;
+        let answer = self
+            .receiver
+            .arrive(packet.seq, packet.stamp, packet.payload, &mut self.events)?;
         self.counts.add_arrival(answer);
         self.chosen = Some(self.chosen.unwrap_or(stream_of(packet)));
         self.missing = add_missing(self.missing, &self.events);

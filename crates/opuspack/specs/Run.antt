@@ -8,7 +8,10 @@ use Rattle.opus_words.specs.declared.ending.Ending.{Ending}
 use Rattle.opus_words.specs.declared.ending.Ending.TheVariants.{NoMemory}
 use Rattle.opus_words.specs.declared.fault.UsageKind.{UsageKind}
 use Rattle.pack_jobs.specs.PackEnds.{PackEnds}
+use Rattle.job_ends.specs.Ends.{MeaningEnds}
 use Rattle.net_jobs.specs.NetEnds.{NetEnds}
+use Rattle.text_jobs.specs.Lines.{place_of, LineSettles, LineEnds}
+use Rattle.text_jobs.specs.Sdp.{sdp, TellsSdp}
 use Rattle.opuspack.specs.HeadEnds.{HeadEnds}
 use Rattle.opuspack.specs.Make.{made_store}
 use Rattle.opuspack.specs.Trial.{trial_text}
@@ -28,6 +31,10 @@ count_in job = unwrap_or job.count 0
 abbrev pub KindEnds : JobKind → Job → ℕ → Outside → Outside → Type 0 → Type 0 → Ending → Type 0
 KindEnds kinds.Head job limit before after Unread Unwritten ending = HeadEnds limit before after ending
 KindEnds kinds.Send job limit before after Unread Unwritten ending = NetEnds job limit before after Unread ending
+KindEnds kinds.Recv job limit before after Unread Unwritten ending = NetEnds job limit before after Unread ending
+KindEnds kinds.Replay job limit before after Unread Unwritten ending = NetEnds job limit before after Unread ending
+KindEnds kinds.Sdp job limit before after Unread Unwritten ending =
+    MeaningEnds TellsSdp place_of sdp LineSettles LineEnds limit before after (Unit {0}) ending
 KindEnds kinds.Make job limit before after Unread Unwritten ending =
     WritesOnly (made_store (seed_in job) (count_in job)) before after Unread Unwritten ending
 KindEnds kinds.Trial job limit before after Unread Unwritten ending =

@@ -17,6 +17,7 @@ use opus_io::{Sink, Source};
 use opus_words::{Ending, Job, JobKind, WordsFault, job_of};
 use pack_jobs::pack_job;
 use std::alloc::Global;
+use text_jobs::text_job;
 
 const MAX_INPUT: u64 = 1_099_511_627_776;
 
@@ -101,7 +102,8 @@ fn do_kind<S: Source, O: Sink>(
 {
     match job.kind {
         JobKind::Head => head_job(alloc, limit, source, out),
-        JobKind::Send => net_job(alloc, job, limit, source, out),
+        JobKind::Send | JobKind::Recv | JobKind::Replay => net_job(alloc, job, limit, source, out),
+        JobKind::Sdp => text_job(alloc, limit, source, out),
         JobKind::Make => make_job(alloc, seed_in(job), count_in(job), out),
         JobKind::Trial => trial_job(alloc, seed_in(job), count_in(job), out),
         _ => pack_job(alloc, job, limit, source, out),

@@ -10,6 +10,7 @@ use std::test::Fail;
 mod capture;
 mod check;
 mod head;
+mod lines;
 mod make;
 mod merge;
 mod norm;

@@ -30,7 +30,7 @@ impl Env for Arguments {
 }
 
 // The words, and what the note says of them.
-static WORDS: [(&[&str], &str); 12] = [
+static WORDS: [(&[&str], &str); 11] = [
     (&["norm", "--loud", "yes"], "usage: words"),
     (&["sing"], "usage: job"),
     (&["norm", "--size", "4"], "usage: option --size"),
@@ -40,7 +40,6 @@ static WORDS: [(&[&str], &str); 12] = [
         &["extract", "--streams", "2", "--stream", "2"],
         "usage: value --stream",
     ),
-    (&["sdp"], "usage: not built"),
     (&["norm", "--streams", "2"], "usage: not built"),
     (
         &["norm", "--form", "self", "--streams", "2"],

@@ -1,0 +1,90 @@
+//! The jobs that write lines or events: show, recv, replay and sdp.
+use super::{Good, all_done, is_met};
+use crate::status::Status;
+use std::test::Fail;
+
+// A packet of SILK at 20 ms, one of SILK in stereo at 60 ms, and one of CELT without bytes.
+static SHOWN: [Good; 3] = [
+    (
+        b"\x08\x40",
+        b"0.0: config 1 silk nb 960 samples mono, code 0, 1 frames, pad 0, 2 bytes\n0.0.0: 1 bytes mid 0/1\n",
+    ),
+    (
+        b"\x1c\x11",
+        b"0.0: config 3 silk nb 2880 samples stereo, code 0, 1 frames, pad 0, 2 bytes\n0.0.0: 1 bytes mid 000/1 side 000/1\n",
+    ),
+    (
+        b"\xfc",
+        b"0.0: config 31 celt fb 960 samples stereo, code 0, 1 frames, pad 0, 1 bytes\n0.0.0: 0 bytes\n",
+    ),
+];
+
+// A capture of seven records: one is RTCP, two came in swapped order, one was cut, and the last repeats the one before it.
+const CAPTURE: &[u8] = b"#!rtpplay1.0 10.0.0.5/5004\n\0\0\0\0\0\0\0\0\x0a\0\0\x05\x13\x8c\0\0\
+\0\x18\0\x10\0\0\0\0\x80\x6f\x03\xe8\0\0\0\0\x12\x34\xab\xcd\xfc\x01\x02\x03\
+\0\x10\0\0\0\0\0\x05\x80\xc9\0\x01\x12\x34\xab\xcd\
+\0\x23\0\x1b\0\0\0\x28\x91\x6f\x03\xea\0\0\x07\x80\x12\x34\xab\xcd\0\0\0\x07\xbe\xde\0\x01\x10\xff\0\0\xfc\x04\x05\
+\0\x16\0\x0e\0\0\0\x29\x80\x6f\x03\xe9\0\0\x03\xc0\x12\x34\xab\xcd\xfc\x06\
+\0\x14\0\x10\0\0\0\x3c\x80\x6f\x03\xeb\0\0\x0b\x40\x12\x34\xab\xcd\
+\0\x18\0\x10\0\0\0\x50\xa0\x6f\x03\xec\0\0\x0f\0\x12\x34\xab\xcd\xfc\x08\0\x02\
+\0\x16\0\x0e\0\0\0\x51\x80\x6f\x03\xec\0\0\x0f\0\x12\x34\xab\xcd\xfc\x09";
+
+static STORED: [Good; 1] = [(
+    CAPTURE,
+    b"\0\0\0\x04\0\0\0\0\xfc\x01\x02\x03\0\0\0\x02\0\0\0\0\xfc\x06\0\0\0\x03\0\0\0\0\xfc\x04\x05\0\0\0\0\0\0\0\0\0\0\0\x02\0\0\0\0\xfc\x08",
+)];
+
+static REPLAYED: [Good; 1] = [(
+    CAPTURE,
+    b"packet 1000 stamp 0 bytes 4\npacket 1001 stamp 960 bytes 2\npacket 1002 stamp 1920 bytes 3\ngap 1003 count 1\npacket 1004 stamp 3840 bytes 2\nrecords 7 rtcp 1 cut 1 bad 0 other 0 repeats 1 packets 4 missing 1\n",
+)];
+
+static PRINTED: [Good; 3] = [
+    (
+        b"a=fmtp:111 useinbandfec=1; maxplaybackrate=16000;minptime=10",
+        b"a=fmtp:111 maxplaybackrate=16000;useinbandfec=1;minptime=10\n",
+    ),
+    (b"a=rtpmap:111 opus/48000/2", b"a=rtpmap:111 opus/48000/2\n"),
+    (b"", b""),
+];
+
+#[test]
+fn show_recv_replay_and_sdp_write_what_they_read(rt: HostRuntime) -> Result<(), Fail> {
+    let alloc = rt.alloc();
+    assert!(rt; all_done(alloc, &["show"], &SHOWN)?);
+    assert!(rt; all_done(alloc, &["recv"], &STORED)?);
+    assert!(rt; all_done(alloc, &["replay"], &REPLAYED)?);
+    assert!(rt; all_done(alloc, &["sdp"], &PRINTED)?);
+    Ok(())
+}
+
+// The words, the input, the output, and the note.
+static REFUSED: [(&str, &[u8], &[u8], &str); 4] = [
+    (
+        "sdp",
+        b"a=fmtp:111 stereo=2",
+        b"",
+        "refused: record 0 at 18: value",
+    ),
+    ("show", b"\xfb\x07", b"", "refused: record 0 at 1: R5 at 1"),
+    (
+        "replay",
+        b"#!rtpplay1.0 10.0.0.5/5004",
+        b"records 0 rtcp 0 cut 0 bad 0 other 0 repeats 0 packets 0 missing 0\n",
+        "refused: record 0 at 26: store cut",
+    ),
+    (
+        "recv",
+        b"#!Atpplay1.0 10.0.0.5/5004\n",
+        b"",
+        "refused: record 0 at 2: dump line",
+    ),
+];
+
+#[test]
+fn their_faults_are_named(rt: HostRuntime) -> Result<(), Fail> {
+    for (job, input, output, note) in &REFUSED {
+        assert!(rt; is_met(rt.alloc(), &[*job], input, Status::Refused, output, note)?);
+    }
+    Ok(())
+}
