@@ -1,1 +1,3 @@
 mod StandardFacts
+pub mod TurnLemmas
+pub mod TakenLemmas

@@ -1,5 +1,5 @@
 -- What bytes hold, they hold alone; and a fault that is decided early stays.
-use Rattle.std.proofs.Common.{◌≡◌, ℕ, ◌+◌, ◌<◌, ◌≤◌, List, [], ◌∷◌, ◌++◌, length, take, map, min, refl, sym, ap, ◌∙◌, subst, inl, inr, absurd, length-append, length-drop, arith, ◌⊎◌}
+use Rattle.std.proofs.Common.{◌≡◌, ℕ, ◌+◌, ◌<◌, ◌≤◌, List, [], ◌∷◌, ◌++◌, length, take, map, min, refl, sym, ap, ◌∙◌, subst, inl, inr, length-append, length-drop, arith, ◌⊎◌}
 use Rattle.std.proofs.lemmas.List.{length-map}
 use Rattle.job_loop.specs.Shown.{Shown}
 use Rattle.opus_packet.specs.declared.fault.Fault.{Fault}
@@ -28,7 +28,7 @@ use Rattle.stream_records.specs.Holds.{Choices, sizes_of, record_of, packets_rec
 -- the streams that stand first and the rest are all of the bytes
 pub stand_sizes : (ss : List SpelledStream) (bytes rest : List ℕ) → StandFirst ss bytes rest
     → sizes_of ss + length rest ≡ length bytes
-stand_sizes [] bytes rest e = sym (ap length e)
+stand_sizes [] bytes rest e = omega (arith, ap (λ (l : List ℕ). length l) e)
 stand_sizes (s ∷ ss) bytes rest h =
     let within = h.0.within in
     omega (arith, within, length-drop s.size bytes, stand_sizes ss _ rest h.1)

@@ -5,6 +5,12 @@
 //! and lends each one. A packet is lent in its kept form, from memory that is taken once.
 #![tactic(auto)]
 
+mod durations;
+mod form;
 mod item;
+mod raw;
+mod stream_pieces;
+mod taken;
 
 pub use item::{Spelling, StreamsFound, StreamsItem};
+pub use raw::RawStreams;

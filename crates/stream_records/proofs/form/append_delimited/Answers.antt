@@ -1,0 +1,14 @@
+use Rattle.std.proofs.Common.{rules, ◌≡◌, ◌++◌, ◌∙◌, sym, ap, subst}
+use Rattle.opus_packet.specs.Canonical.{canonical_self_delimited, kept_self_delimited}
+use Rattle.opus_packet.specs.Tail.{kept_bytes}
+use Rattle.opus_writer.proofs.FormLemmas.{kept_self-nil}
+use Rattle.stream_records.proofs.form.append_delimited.Goals as goal
+
+wrote : (c : goal.After-unwrap-in-Dropped) → c.write_canon_self.new.out.items ≡ c.args.out.now.items ++ canonical_self_delimited c.args.packet.now.value
+wrote c = search rules
+
+pub returns-in-Dropped-clause-form : goal.returns-in-Dropped-clause-form
+returns-in-Dropped-clause-form c =
+    subst (λ t. c.write_canon_self.new.out.items ≡ c.args.out.now.items ++ kept_self_delimited c.args.packet.now.value (kept_bytes t))
+    c.in-Dropped.ensures.tail
+    (wrote c ∙ ap (λ l. c.args.out.now.items ++ l) (sym (kept_self-nil c.args.packet.now.value)))
