@@ -1,3 +1,4 @@
 mod StandardFacts
 pub mod TurnLemmas
 pub mod TakenLemmas
+pub mod RawLemmas
