@@ -6,3 +6,6 @@ pub mod Told
 pub mod StreamPieces
 pub mod Raw
 pub mod RawLaws
+pub mod Demo
+pub mod DemoRests
+pub mod DemoLaws
