@@ -2,3 +2,7 @@ mod StandardFacts
 pub mod TurnLemmas
 pub mod TakenLemmas
 pub mod RawLemmas
+pub mod DemoFronts
+pub mod DemoSteps
+pub mod DemoHeads
+pub mod DemoPayloads

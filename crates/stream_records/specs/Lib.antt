@@ -9,3 +9,4 @@ pub mod RawLaws
 pub mod Demo
 pub mod DemoRests
 pub mod DemoLaws
+pub mod DemoForm

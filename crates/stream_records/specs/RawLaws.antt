@@ -35,15 +35,15 @@ reads_prefix p start h r = record {
   can = rw (sym r.framing) (prefix_by p.feed.framing r.rest (reading_answer p.feed r.rest r.stands r.reading));
 }
 
-pub reads_open : (p : StreamPieces) (start range : ℕ) (h : List ℕ) (r : Shown StreamsItem) → Reads p start h
+pub reads_open : (p : StreamPieces) (begun start range : ℕ) (h : List ℕ) (r : Shown StreamsItem) → Reads p begun h
     → ShowsEarly p.streams start range h r → ⊥
-reads_open p start range h r reads e =
-    never_early p.streams start range h r reads.are_bytes (reads_prefix p start h reads) e
+reads_open p begun start range h r reads e =
+    never_early p.streams start range h r reads.are_bytes (reads_prefix p begun h reads) e
 
 shown_at : (over : Bool) (p : StreamPieces) (h : List ℕ) (rs : List (Shown StreamsItem)) → RawAt over p h rs
     → EarlyRecord p.streams h rs ⊎ NoRecord p.streams h rs
 shown_at true p h rs at = inl at
-shown_at false p h rs at = inr record { undecided = λ r. reads_open p 0 0 h r at.0; records_are = at.1 }
+shown_at false p h rs at = inr record { undecided = λ r. reads_open p 0 0 0 h r at.0; records_are = at.1 }
 
 pub raw_settled : (over : Bool) (p : StreamPieces) (h : List ℕ) (rs : List (Shown StreamsItem)) → RawStands over p h rs
     → RawSettles (choices_of p) h rs

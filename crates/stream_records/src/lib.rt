@@ -5,6 +5,7 @@
 //! and lends each one. A packet is lent in its kept form, from memory that is taken once.
 #![tactic(auto)]
 
+mod demo;
 mod durations;
 mod form;
 mod item;
@@ -12,5 +13,6 @@ mod raw;
 mod stream_pieces;
 mod taken;
 
+pub use demo::DemoStreams;
 pub use item::{Spelling, StreamsFound, StreamsItem};
 pub use raw::RawStreams;
