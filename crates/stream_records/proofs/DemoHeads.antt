@@ -1,5 +1,5 @@
 -- The machine of the form of `opus_demo` stores of multistream packets, at the head of a record.
-use Rattle.std.proofs.Common.{◌≡◌, inl, inr, ℕ, ◌+◌, ◌<◌, ◌≤◌, ◌^◌, Bool, true, false, List, [], ◌∷◌, ◌++◌, length, refl, sym, ap, ◌∙◌, subst, length-append, append-nil, arith}
+use Rattle.std.proofs.Common.{◌≡◌, inr, ℕ, ◌+◌, ◌<◌, ◌^◌, Bool, true, false, List, [], ◌∷◌, ◌++◌, length, refl, sym, ap, ◌∙◌, subst, length-append, append-nil, arith}
 use Rattle.job_loop.specs.Shown.{Shown}
 use Rattle.job_loop.specs.Forms.{HasFed}
 use Rattle.opus_packet.specs.PacketPrefix.{AreBytes}

@@ -1,5 +1,5 @@
 -- The machine of an input that is one multistream packet.
-use Rattle.std.proofs.Common.{◌≡◌, ℕ, ◌+◌, Bool, true, false, not, List, [], ◌∷◌, ◌++◌, length, None, refl, sym, ap, ◌∙◌}
+use Rattle.std.proofs.Common.{◌≡◌, ℕ, Bool, true, false, not, List, [], ◌∷◌, ◌++◌, None, refl, ap}
 use Rattle.job_loop.specs.Shown.{Shown}
 use Rattle.job_loop.specs.Forms.{HasEnded}
 use Rattle.opus_packet.specs.PacketPrefix.{AreBytes}

@@ -1,5 +1,5 @@
 -- Small records of two streams, computed from the definitions.
-use Rattle.std.proofs.Common.{◌≡◌, false, [], ◌∷◌, refl, arith}
+use Rattle.std.proofs.Common.{false, [], ◌∷◌, refl, arith}
 use Rattle.opus_toc.specs.Configuration.{samples_of, row_of}
 use Rattle.opus_flen.specs.PaddingLength.{most_full}
 use Rattle.opus_packet.specs.Value.{PacketValue}

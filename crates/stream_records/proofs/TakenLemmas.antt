@@ -1,7 +1,7 @@
 -- What a record that is read in pieces holds, once it is decided.
-use Rattle.std.proofs.Common.{◌≡◌, ℕ, ◌+◌, ◌-◌, ◌<◌, ◌≤◌, ◌⊎◌, inl, inr, List, [], ◌∷◌, ◌++◌, length, take, drop, map, flat_map, min, Option, Some, None, Ok, Err, refl, ap, sym, subst, ◌∙◌, arith, length-append, length-take-le, take-append-drop}
-use Rattle.std.proofs.lemmas.List.{append_assoc, drop-take, take-take}
-use Rattle.std.proofs.Math.Seq.{take-append-add, take-append_seam, drop-append_seam}
+use Rattle.std.proofs.Common.{◌≡◌, ℕ, ◌+◌, ◌<◌, ◌≤◌, ◌⊎◌, inl, inr, List, [], ◌∷◌, ◌++◌, length, take, drop, map, flat_map, min, Option, Some, None, Ok, Err, refl, ap, sym, subst, ◌∙◌, arith, length-append, length-take-le, take-append-drop}
+use Rattle.std.proofs.lemmas.List.{drop-take, take-take}
+use Rattle.std.proofs.Math.Seq.{take-append-add}
 use Rattle.job_loop.specs.Shown.{Shown}
 use Rattle.opus_packet.specs.declared.fault.Fault.{Fault}
 use Rattle.opus_packet.specs.PacketFault.{packet_fault}
@@ -25,7 +25,7 @@ use Rattle.opus_multi.specs.Multistream.{durations_of}
 use Rattle.opus_multi.specs.MultistreamFault.{framing_of}
 use Rattle.opus_multi.specs.StreamParts.{read_with}
 use Rattle.opus_multi.specs.Forms.{kept_of, kept_self_of, kept_multistream}
-use Rattle.opus_multi.proofs.StreamsLemmas.{stand_bytes, stand_more}
+use Rattle.opus_multi.proofs.StreamsLemmas.{stand_bytes}
 use Rattle.opus_multi.proofs.ReadLemmas.{lt_or_ge, framing_more, framing_past, told_one, told_other}
 use Rattle.opus_multi.proofs.TurnLemmas.{reading_answer}
 use Rattle.opus_multi.proofs.WriteLemmas.{forms_push, forms_map}
@@ -37,7 +37,7 @@ use Rattle.stream_records.specs.declared.durations.Other.{Other}
 use Rattle.stream_records.specs.declared.durations.Durations.{Durations}
 use Rattle.stream_records.specs.declared.stream_pieces.StreamPieces.{StreamPieces}
 use Rattle.stream_records.specs.declared.taken.Taken.TheVariants.{Bad}
-use Rattle.stream_records.specs.Holds.{record_of, sizes_of, held_as, spelling_of, packets_record, broken_record, unequal_record, HoldsBroken, Holds, ShowsEarly}
+use Rattle.stream_records.specs.Holds.{record_of, sizes_of, held_as, spelling_of, Holds, ShowsEarly}
 use Rattle.stream_records.specs.HoldsLaws.{stand_sizes}
 use Rattle.stream_records.specs.Told.{stream_in, BeginsBehind, Told}
 use Rattle.stream_records.specs.StreamPieces.{shown_by, choices_of, whole_in, Reads, HasRefused, HasAdded, LastShows, HasLast, HasTaken}

@@ -6,13 +6,11 @@ use Rattle.opus_packet.specs.declared.fault.Fault.{Fault}
 use Rattle.opus_packet.specs.Value.{duration_of}
 use Rattle.opus_packet.specs.PacketPrefix.{AreBytes}
 use Rattle.opus_packet.specs.Read.{PacketRead}
-use Rattle.opus_packet.specs.Tail.{kept_bytes}
 use Rattle.opus_packet.proofs.BytesLemmas.{AreBytes-append, AreBytes-take}
 use Rattle.opus_feed.specs.declared.framing.Framing.{Framing}
 use Rattle.opus_feed.specs.declared.framing.Framing.TheVariants.{SelfDelimited}
 use Rattle.opus_feed.specs.declared.padding.Padding.{Padding}
-use Rattle.opus_feed.specs.declared.feed.Feed.{Feed}
-use Rattle.opus_feed.specs.declared.step.Step.TheVariants.{More, Done, Refused}
+use Rattle.opus_feed.specs.declared.step.Step.TheVariants.{Done, Refused}
 use Rattle.opus_feed.specs.Feeds.{Stands}
 use Rattle.opus_feed.specs.Steps.{IsReading}
 use Rattle.opus_feed.specs.Answers.{Answers, Ends, IsRead}

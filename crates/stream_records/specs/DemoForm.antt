@@ -1,5 +1,5 @@
 -- What the machine of the form of `opus_demo` stores of multistream packets stands for.
-use Rattle.std.specs.Prelude.{◌≡◌, ◌⊎◌, ℕ, ◌+◌, ◌≤◌, List, [], ◌++◌, length}
+use Rattle.std.specs.Prelude.{◌≡◌, ◌⊎◌, ℕ, ◌+◌, ◌≤◌, List, [], length}
 use Rattle.job_loop.specs.Shown.{Shown}
 use Rattle.job_loop.specs.Forms.{HasFed}
 use Rattle.job_loop.specs.declared.form.Fed.{Fed}

@@ -1,5 +1,5 @@
 -- The rest of an `opus_demo` store of multistream packets: what is decided of it, and what more bytes make of it.
-use Rattle.std.proofs.Common.{◌≡◌, ◌⊎◌, inl, inr, ℕ, ◌+◌, ◌<◌, ◌≤◌, List, [], ◌∷◌, ◌++◌, length, sym, ap, ◌∙◌, subst, length-append, append_assoc, arith}
+use Rattle.std.proofs.Common.{◌≡◌, ℕ, ◌<◌, List, [], ◌∷◌, ◌++◌, length, sym, ap, ◌∙◌, subst, length-append, append_assoc, arith}
 use Rattle.job_loop.specs.Shown.{Shown}
 use Rattle.opus_packet.specs.PacketPrefix.{AreBytes}
 use Rattle.opus_packet.proofs.BytesLemmas.{AreBytes-right}

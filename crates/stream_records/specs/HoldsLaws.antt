@@ -1,18 +1,15 @@
 -- What bytes hold, they hold alone; and a fault that is decided early stays.
-use Rattle.std.proofs.Common.{◌≡◌, ℕ, ◌+◌, ◌<◌, ◌≤◌, List, [], ◌∷◌, ◌++◌, length, take, map, min, refl, sym, ap, ◌∙◌, subst, inl, inr, length-append, length-drop, arith, ◌⊎◌}
+use Rattle.std.proofs.Common.{◌≡◌, ℕ, ◌+◌, ◌<◌, List, [], ◌∷◌, ◌++◌, length, take, map, min, refl, sym, ap, ◌∙◌, subst, inl, inr, length-append, length-drop, arith}
 use Rattle.std.proofs.lemmas.List.{length-map}
 use Rattle.job_loop.specs.Shown.{Shown}
 use Rattle.opus_packet.specs.declared.fault.Fault.{Fault}
 use Rattle.opus_packet.specs.PacketPrefix.{AreBytes}
 use Rattle.opus_packet.proofs.BytesLemmas.{AreBytes-left, AreBytes-append}
-use Rattle.opus_feed.specs.declared.framing.Framing.{Framing}
-use Rattle.opus_feed.specs.Packets.{IsNone, fault_of}
-use Rattle.opus_multi.specs.declared.fault.MultiFault.{MultiFault}
+use Rattle.opus_feed.specs.Packets.{fault_of}
 use Rattle.opus_multi.specs.declared.fault.MultiFault.TheVariants.{Stream, Unequal}
-use Rattle.opus_multi.specs.Streams.{SpelledStream, StandFirst, AreStreams}
-use Rattle.opus_multi.specs.Durations.{HaveOneDuration}
-use Rattle.opus_multi.specs.Multistream.{durations_of, IsMultistream}
-use Rattle.opus_multi.specs.MultistreamFault.{framing_of, IsBroken, AreUnequal}
+use Rattle.opus_multi.specs.Streams.{SpelledStream, StandFirst}
+use Rattle.opus_multi.specs.Multistream.{IsMultistream}
+use Rattle.opus_multi.specs.MultistreamFault.{framing_of, IsBroken}
 use Rattle.opus_multi.specs.MultistreamPrefix.{IsMultistreamPrefix}
 use Rattle.opus_multi.proofs.StreamsLemmas.{Follows, follow, stand_more, stand_bytes}
 use Rattle.opus_multi.proofs.OnlyLemmas.{broken_none, streams_once, fault_once, fault_none}

@@ -6,7 +6,7 @@ use Rattle.pack_records.specs.declared.cut.Cut.{Cut}
 use Rattle.stream_records.specs.declared.item.StreamsItem.{StreamsItem}
 use Rattle.stream_records.specs.declared.stream_pieces.StreamPieces.{StreamPieces}
 use Rattle.stream_records.specs.Holds.{Choices, Holds, ShowsEarly}
-use Rattle.stream_records.specs.StreamPieces.{choices_of, Reads}
+use Rattle.stream_records.specs.StreamPieces.{Reads}
 
 -- a stream doesn't read however the bytes go on, and one record shows it
 pub record EarlyRecord (count : ℕ) (h : List ℕ) (rs : List (Shown StreamsItem)) : Type 0 where

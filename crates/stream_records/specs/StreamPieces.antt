@@ -8,7 +8,6 @@ use Rattle.opus_packet.specs.Tail.{kept_bytes}
 use Rattle.opus_packet.specs.Value.{duration_of}
 use Rattle.opus_feed.specs.declared.framing.Framing.{Framing}
 use Rattle.opus_feed.specs.declared.framing.Framing.TheVariants.{Whole}
-use Rattle.opus_feed.specs.declared.feed.Feed.{Feed}
 use Rattle.opus_feed.specs.Feeds.{Stands, Ended}
 use Rattle.opus_feed.specs.Answers.{IsRead}
 use Rattle.opus_feed.specs.Packets.{Refuses}

@@ -1,5 +1,5 @@
 -- What is known of streams that were told one after another.
-use Rattle.std.specs.Prelude.{◌≡◌, ℕ, ◌+◌, ◌⊎◌, List, take, Option, Some, None, IfSome}
+use Rattle.std.specs.Prelude.{◌≡◌, ℕ, ◌+◌, ◌⊎◌, List, take, Option, Some, None}
 use Rattle.opus_multi.specs.Streams.{SpelledStream}
 use Rattle.opus_multi.specs.Multistream.{durations_of}
 use Rattle.opus_multi.specs.Told.{Says}

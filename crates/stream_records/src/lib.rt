@@ -12,6 +12,8 @@ mod item;
 mod raw;
 mod stream_pieces;
 mod taken;
+#[cfg(test)]
+mod tests;
 
 pub use demo::DemoStreams;
 pub use item::{Spelling, StreamsFound, StreamsItem};

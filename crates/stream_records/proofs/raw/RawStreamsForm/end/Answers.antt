@@ -1,4 +1,4 @@
-use Rattle.std.proofs.Common.{length, arith}
+use Rattle.std.proofs.Common.{arith}
 use Rattle.stream_records.specs.StreamPieces.{shown_by}
 use Rattle.stream_records.proofs.RawLemmas.{raw_end}
 use Rattle.stream_records.proofs.raw.RawStreamsForm.end.Goals as goal

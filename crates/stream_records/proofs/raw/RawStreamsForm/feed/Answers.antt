@@ -1,4 +1,4 @@
-use Rattle.std.proofs.Common.{◌≡◌, ◌+◌, ◌++◌, length, take, sym, ◌∙◌, subst, length-append, length-take-le, arith}
+use Rattle.std.proofs.Common.{◌≡◌, ◌++◌, length, take, sym, ◌∙◌, subst, length-append, length-take-le, arith}
 use Rattle.opus_packet.proofs.BytesLemmas.{AreBytes-from, AreBytes-take}
 use Rattle.stream_records.specs.StreamPieces.{shown_by}
 use Rattle.stream_records.specs.Raw.{RawStands}

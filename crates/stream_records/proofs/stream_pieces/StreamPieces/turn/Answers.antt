@@ -1,4 +1,4 @@
-use Rattle.std.proofs.Common.{length, refl, arith}
+use Rattle.std.proofs.Common.{refl, arith}
 use Rattle.opus_packet.proofs.BytesLemmas.{AreBytes-from}
 use Rattle.stream_records.proofs.TurnLemmas.{reads_on, turn_refused, reads_next}
 use Rattle.stream_records.proofs.stream_pieces.StreamPieces.turn.Goals as goal

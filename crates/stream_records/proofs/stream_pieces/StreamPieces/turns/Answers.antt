@@ -1,4 +1,3 @@
-use Rattle.std.proofs.Common.{Err, subst, sym, ◌∙◌}
 use Rattle.std.proofs.lemmas.Result.{err_from_is_err_and}
 use Rattle.stream_records.proofs.TurnLemmas.{so_far_nothing, so_far_next, so_far_err}
 use Rattle.stream_records.proofs.stream_pieces.StreamPieces.turns.Goals as goal
