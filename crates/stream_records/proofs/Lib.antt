@@ -1,5 +1,6 @@
 mod StandardFacts
 pub mod TurnLemmas
+pub mod LentLemmas
 pub mod TakenLemmas
 pub mod RawLemmas
 pub mod DemoFronts

@@ -9,6 +9,7 @@ mod demo;
 mod durations;
 mod form;
 mod item;
+pub mod laws;
 mod raw;
 mod stream_pieces;
 mod taken;

@@ -27,7 +27,14 @@ type Spelled = (u8, u32, u32, u32);
 
 // A record as it is wanted: where it starts and is decided, its range, what it holds, how its streams are spelled, and
 // the bytes lent with it.
-type Row<'a> = (u64, u64, u32, StreamsFound, &'a [Spelled], &'a [u8]);
+type Row = (
+    u64,
+    u64,
+    u32,
+    StreamsFound,
+    &'static [Spelled],
+    &'static [u8],
+);
 
 // Two streams of 20 ms, the first with a padding byte.
 const PADDED: &[u8] = b"\xFB\x41\x01\x01\xAA\0\xFB\x01\xBB";
@@ -40,13 +47,13 @@ const PADDED_KEPT: &[u8] = b"\xFB\x41\x01\x01\xAA\0\xF8\xBB";
 // The second stream lasts 10 ms.
 const UNEQUAL: &[u8] = b"\xF8\x01\xAA\xF0\xBB";
 
-fn packets<'a>(
+fn packets(
     start: u64,
     size: u64,
     range: u32,
-    spelled: &'a [Spelled],
-    bytes: &'a [u8],
-) -> Row<'a> {
+    spelled: &'static [Spelled],
+    bytes: &'static [u8],
+) -> Row {
     (
         start,
         start.saturating_add(size),
@@ -58,7 +65,7 @@ fn packets<'a>(
 }
 
 // The fault's place counts from the stream's first byte, all others from the input's.
-fn broken(start: u64, place: u64, stream: u8, begins: u64, rule: Rule, at: u64) -> Row<'static> {
+fn broken(start: u64, place: u64, stream: u8, begins: u64, rule: Rule, at: u64) -> Row {
     let found = StreamsFound::Broken {
         stream,
         start: begins,
@@ -67,7 +74,7 @@ fn broken(start: u64, place: u64, stream: u8, begins: u64, rule: Rule, at: u64) 
     (start, place, 0, found, &[], &[])
 }
 
-fn unequal(start: u64, place: u64, stream: u8, begins: u64) -> Row<'static> {
+fn unequal(start: u64, place: u64, stream: u8, begins: u64) -> Row {
     let found = StreamsFound::Unequal {
         stream,
         start: begins,
@@ -90,7 +97,7 @@ fn are_spelled(item: &StreamsItem, spelled: &[Spelled]) -> bool {
     true
 }
 
-fn is_row(item: &StreamsItem, bytes: &[u8], row: &Row<'_>) -> bool {
+fn is_row(item: &StreamsItem, bytes: &[u8], row: &Row) -> bool {
     let (start, place, range, found, spelled, wanted) = row;
     let places = item.start == *start && item.place == *place && item.range == *range;
     places && item.found == *found && are_spelled(item, spelled) && bytes == *wanted
@@ -102,7 +109,7 @@ fn says<F: Form<Record = StreamsItem, Cut = Cut>>(
     form: &mut F,
     input: &[u8],
     step: usize,
-    rows: &[Row<'_>],
+    rows: &[Row],
     cut: Option<u64>,
 ) -> Result<(), Fail> {
     let mut rows = rows.iter();
@@ -114,9 +121,10 @@ fn says<F: Form<Record = StreamsItem, Cut = Cut>>(
             let fed = form.feed(at.min(MOST), piece);
             if fed.whole {
                 let lent = form.record(&piece[..fed.count]);
-                let is = rows
-                    .next()
-                    .is_some_and(|row| is_row(lent.item(), lent.bytes(), row));
+                let is = match rows.next() {
+                    Some(row) => is_row(lent.item(), lent.bytes(), row),
+                    None => false,
+                };
                 assert!(rt; is, "{input:?} by {step}");
             }
             at = at.saturating_add(fed.count as u64);
@@ -127,9 +135,10 @@ fn says<F: Form<Record = StreamsItem, Cut = Cut>>(
     assert_eq!(rt; close.cut.map(|c| c.place), cut);
     if close.whole {
         let lent = form.record(&[]);
-        let is = rows
-            .next()
-            .is_some_and(|row| is_row(lent.item(), lent.bytes(), row));
+        let is = match rows.next() {
+            Some(row) => is_row(lent.item(), lent.bytes(), row),
+            None => false,
+        };
         assert!(rt; is, "{input:?} by {step}");
     }
     assert!(rt; rows.next().is_none(), "{input:?} by {step}");

@@ -1,10 +1,51 @@
 //! Many streams, and much padding.
 
-use super::{DROP, KEEP, Row, STEPS, packets, says};
-use crate::RawStreams;
+use super::{DROP, KEEP, MOST, STEPS, Spelled, are_spelled};
+use crate::{RawStreams, StreamsFound, StreamsItem};
+use job_loop::Form;
 use opus_feed::Padding;
+use pack_records::Cut;
 use std::alloc::Global;
 use std::test::Fail;
+
+// Feeds all of the input in pieces of `step` bytes. Whether none of them decides its record.
+fn is_open_to_its_end<F: Form<Record = StreamsItem, Cut = Cut>>(
+    form: &mut F,
+    input: &[u8],
+    step: usize,
+) -> bool {
+    let mut rest = input;
+    let mut at: u64 = 0;
+    let mut early = false;
+    for _ in 0..input.len() {
+        let piece = &rest[..rest.len().min(step.min(4096))];
+        if !piece.is_empty() {
+            let fed = form.feed(at.min(MOST), piece);
+            early = early || fed.whole;
+            at = at.saturating_add(fed.count as u64);
+            rest = &rest[fed.count..];
+        }
+    }
+    !early
+}
+
+// The record of the input is these streams, with these bytes.
+fn has<F: Form<Record = StreamsItem, Cut = Cut>>(
+    form: &mut F,
+    input: &[u8],
+    step: usize,
+    spelled: &[Spelled],
+    bytes: &[u8],
+) -> bool {
+    let late = is_open_to_its_end(form, input, step);
+    let close = form.end((input.len() as u64).min(MOST));
+    if !close.whole {
+        return false;
+    }
+    let lent = form.record(&[]);
+    let found = lent.item().found == StreamsFound::Packets;
+    late && found && are_spelled(lent.item(), spelled) && lent.bytes() == bytes
+}
 
 // 254 empty self-delimited packets and one undelimited packet of one byte.
 #[test]
@@ -16,10 +57,9 @@ fn reads_255_streams(rt: HostRuntime) -> Result<(), Fail> {
     bytes.push(0xF8)?;
     let mut spelled = [(0, 0, 2, 0); 255];
     spelled[254] = (0, 0, 1, 0);
-    let row = packets(0, 509, 0, &spelled, &bytes);
     for step in STEPS {
         let mut form = RawStreams::new(rt.alloc(), 255, DROP)?;
-        says(&rt, &mut form, &bytes, step, &[row], None)?;
+        assert!(rt; has(&mut form, &bytes, step, &spelled, &bytes), "{step}");
     }
     Ok(())
 }
@@ -35,45 +75,30 @@ fn padded(alloc: Global, last: u8) -> Result<Vec<u8>, Fail> {
     Ok(bytes)
 }
 
+// The first stream in this shape, and the second as it is.
+fn first(
+    alloc: Global,
+    padding: Padding,
+    last: u8,
+    spelled: Spelled,
+    kept: &[u8],
+) -> Result<bool, Fail> {
+    let input = padded(alloc, last)?;
+    let mut all = true;
+    for step in STEPS {
+        let mut form = RawStreams::new(alloc, 2, padding)?;
+        all = all && has(&mut form, &input, step, &[spelled, (0, 0, 2, 0)], kept);
+    }
+    Ok(all)
+}
+
 #[test]
 fn padding_bytes_are_kept_up_to_65535(rt: HostRuntime) -> Result<(), Fail> {
-    let most = padded(rt.alloc(), 3)?;
-    let more = padded(rt.alloc(), 4)?;
+    let alloc = rt.alloc();
+    let most = padded(alloc, 3)?;
     let plain: &[u8] = b"\xF8\x01\xAA\xF8\xBB";
-    let rows: [(&[u8], Padding, Row<'_>); 3] = [
-        (
-            &most,
-            KEEP,
-            packets(0, 65800, 0, &[(3, 65794, 65798, 0), (0, 0, 2, 0)], &most),
-        ),
-        (
-            &most,
-            DROP,
-            packets(
-                0,
-                65800,
-                0,
-                &[(3, 65794, 65798, 65535), (0, 0, 2, 0)],
-                plain,
-            ),
-        ),
-        (
-            &more,
-            KEEP,
-            packets(
-                0,
-                65801,
-                0,
-                &[(3, 65795, 65799, 65536), (0, 0, 2, 0)],
-                plain,
-            ),
-        ),
-    ];
-    for (input, padding, row) in &rows {
-        for step in STEPS {
-            let mut form = RawStreams::new(rt.alloc(), 2, *padding)?;
-            says(&rt, &mut form, input, step, &[*row], None)?;
-        }
-    }
+    assert!(rt; first(alloc, KEEP, 3, (3, 65794, 65798, 0), &most)?);
+    assert!(rt; first(alloc, DROP, 3, (3, 65794, 65798, 65535), plain)?);
+    assert!(rt; first(alloc, KEEP, 4, (3, 65795, 65799, 65536), plain)?);
     Ok(())
 }

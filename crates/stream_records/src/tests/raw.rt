@@ -3,10 +3,12 @@
 use super::{
     DROP, KEEP, PADDED, PADDED_KEPT, PLAIN, Row, STEPS, UNEQUAL, broken, packets, says, unequal,
 };
-use crate::{RawStreams, StreamsFound};
+use crate::{RawStreams, StreamsFound, StreamsItem};
+use job_loop::Form;
 use opus_feed::Padding;
 use opus_multi::{MultiFault, decode_multi};
 use opus_packet::Rule;
+use pack_records::Cut;
 use std::alloc::Global;
 use std::test::Fail;
 
@@ -14,7 +16,7 @@ use std::test::Fail;
 fn the_whole_input_is_one_record(rt: HostRuntime) -> Result<(), Fail> {
     let dropped = packets(0, 9, 0, &[(3, 2, 6, 1), (3, 0, 3, 0)], PLAIN);
     let kept = packets(0, 9, 0, &[(3, 2, 6, 0), (3, 0, 3, 0)], PADDED_KEPT);
-    let rows: [(&[u8], u8, Padding, Row<'_>); 12] = [
+    let rows: [(&[u8], u8, Padding, Row); 12] = [
         (PADDED, 2, DROP, dropped),
         (PADDED, 2, KEEP, kept),
         (
@@ -94,12 +96,14 @@ fn each_front_is_found_as_it_is_read_where_it_lies(rt: HostRuntime) -> Result<()
 }
 
 // What the form finds of a small input in one piece.
-fn front_found(form: &mut RawStreams, front: &[u8]) -> Option<StreamsFound> {
-    use job_loop::Form;
+fn front_found<F: Form<Record = StreamsItem, Cut = Cut>>(
+    form: &mut F,
+    front: &[u8],
+) -> Option<StreamsFound> {
     if !front.is_empty() && front.len() < 100 {
         let fed = form.feed(0, front);
         if fed.whole {
-            return Some(form.record(front).item().found);
+            return Some(form.record(&front[..fed.count]).item().found);
         }
     }
     let close = form.end(front.len().min(100) as u64);

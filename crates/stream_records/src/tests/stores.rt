@@ -19,7 +19,7 @@ const UNEQUAL_STORE: &[u8] = b"\0\0\0\x05\0\0\0\0\xF8\x01\xAA\xF0\xBB\0\0\0\0\0\
 const SHORT_STORE: &[u8] =
     b"\0\0\0\x03\0\0\0\0\xF8\x01\xAA\0\0\0\x05\0\0\0\x02\xF8\x01\xAA\xF8\xCC";
 
-fn lost(start: u64, range: u32) -> Row<'static> {
+fn lost(start: u64, range: u32) -> Row {
     (start, start, range, StreamsFound::Lost, &[], &[])
 }
 
@@ -38,7 +38,7 @@ fn records_are_shown_with_their_streams(rt: HostRuntime) -> Result<(), Fail> {
         broken(8, 11, 1, 11, Rule::R1, 0),
         packets(19, 5, 2, TWO, b"\xF8\x01\xAA\xF8\xCC"),
     ];
-    let rows: [(&[u8], Padding, &[Row<'_>]); 4] = [
+    let rows: [(&[u8], Padding, &[Row]); 4] = [
         (FOUR, DROP, &four),
         (PADDED_STORE, KEEP, &padded),
         (UNEQUAL_STORE, DROP, &differ),
