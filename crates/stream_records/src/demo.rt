@@ -205,12 +205,14 @@ impl Form for DemoStreams {
 
     ghost ready = { λ s own. IsReady s.pieces };
 
-    fn feed(&mut self, at: u64, piece: &[u8]) -> Fed {
-        match self.mode {
+    ghost lacks = { λ _. ⊥ };
+
+    fn feed(&mut self, at: u64, piece: &[u8]) -> Result<Fed, NoMemory> {
+        Ok(match self.mode {
             Mode::Head => self.more_head(at, piece),
             Mode::Payload => self.more_payload(at, piece),
             Mode::Skip => self.skip(piece),
-        }
+        })
     }
 
     fn record<'a>(&'a self, own: &'a [u8]) -> Lent<'a, StreamsItem> {

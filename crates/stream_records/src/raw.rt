@@ -64,21 +64,23 @@ impl Form for RawStreams {
 
     ghost ready = { λ f own. IsReady f.pieces };
 
-    fn feed(&mut self, at: u64, piece: &[u8]) -> Fed {
+    ghost lacks = { λ _. ⊥ };
+
+    fn feed(&mut self, at: u64, piece: &[u8]) -> Result<Fed, NoMemory> {
         if self.over {
-            return Fed {
+            return Ok(Fed {
                 count: piece.len(),
                 whole: false,
-            };
+            });
         }
         match self.pieces.take(0, 0, at, piece) {
-            Taken::More => Fed {
+            Taken::More => Ok(Fed {
                 count: piece.len(),
                 whole: false,
-            },
+            }),
             Taken::Bad(count) => {
                 self.over = true;
-                Fed { count, whole: true }
+                Ok(Fed { count, whole: true })
             }
         }
     }

@@ -118,7 +118,7 @@ fn says<F: Form<Record = StreamsItem, Cut = Cut>>(
     for _ in 0..input.len() {
         let piece = &rest[..rest.len().min(step.min(4096))];
         if !piece.is_empty() {
-            let fed = form.feed(at.min(MOST), piece);
+            let fed = form.feed(at.min(MOST), piece)?;
             if fed.whole {
                 let lent = form.record(&piece[..fed.count]);
                 let is = match rows.next() {
