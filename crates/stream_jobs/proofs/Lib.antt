@@ -1,0 +1,2 @@
+pub mod JoinLemmas
+mod StandardFacts

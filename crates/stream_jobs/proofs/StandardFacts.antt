@@ -1,0 +1,1 @@
+-- The job join, computed on small records.

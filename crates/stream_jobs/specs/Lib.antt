@@ -1,0 +1,4 @@
+pub mod Refusal
+pub mod Join
+pub mod JoinParts
+pub mod JoinStands

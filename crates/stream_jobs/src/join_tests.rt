@@ -1,0 +1,1 @@
+//! The job join over stores, a row a line.

@@ -1,0 +1,99 @@
+//! Why a job over packets of several streams refuses an input, in numbers, and the text of it.
+ghost use Rattle.std.specs.Prelude.{◌≡◌, ◌≤◌, ◌+◌, ◌++◌, length};
+ghost use Rattle.arrayvec.specs.ArrayString.{array_string_len};
+ghost use Rattle.stream_jobs.specs.Refusal.{why_text, stream_text, Tells};
+
+use arrayvec::ArrayString;
+use job_ends::Told;
+use opus_packet::Fault;
+use opus_words::JobFault;
+use pack_jobs::{decimal_text, fault_text};
+
+/// Why an input is refused. A stream is told by its index in its packet, from 0.
+#[derive(Clone, Copy, Debug, PartialEq, Eq)]
+pub enum StreamWhy {
+    /// A record holds no packet of one stream, for this fault.
+    Fault(Fault),
+    /// A record holds no multistream packet: this is the first stream that doesn't read, and its fault.
+    StreamFault { stream: u8, fault: Fault },
+    /// The packet of this stream is the first that doesn't last as long as that of stream 0.
+    Unequal(u8),
+    /// Of the records of a group one is lost, and another is not.
+    LostPart,
+    /// The input ends where a group has too few records.
+    ShortGroup,
+    /// The store ends within a record.
+    StoreCut,
+    /// A packet of one stream has more padding bytes than are kept: 65,535.
+    PaddingLong,
+    /// The packet of this stream has.
+    StreamPaddingLong(u8),
+}
+
+/// A refused input. Its text is made at the end of the run alone.
+#[derive(Clone, Copy, Debug, PartialEq, Eq)]
+pub struct StreamRefusal {
+    /// The record's number, from 0.
+    pub index: u64,
+    /// The place, in bytes from the input's beginning.
+    pub place: u64,
+    /// What is wrong there.
+    pub why: StreamWhy,
+}
+
+impl Told for StreamRefusal {
+    ghost tells = { Tells };
+
+    #[cold]
+    #[inline(never)]
+    fn fault(self) -> JobFault {
+        JobFault {
+            index: self.index,
+            place: self.place,
+            text: why_text(self.why),
+        }
+    }
+}
+
+fn why_text(why: StreamWhy) -> ArrayString<64>
+    ensures { result.bytes ≡ why_text why }
+{
+    match why {
+        StreamWhy::Fault(fault) => fault_text(fault),
+        StreamWhy::StreamFault { stream, fault } => {
+            let mut text = stream_text("", stream, " ");
+            text.push_str(fault_text(fault).as_str());
+            text
+        }
+        StreamWhy::Unequal(stream) => stream_text("unequal ", stream, ""),
+        StreamWhy::LostPart => text_of("lost part"),
+        StreamWhy::ShortGroup => text_of("short group"),
+        StreamWhy::StoreCut => text_of("store cut"),
+        StreamWhy::PaddingLong => text_of("padding long"),
+        StreamWhy::StreamPaddingLong(stream) => stream_text("", stream, " padding long"),
+    }
+}
+
+// The words that name a stream, between others.
+fn stream_text(before: &str, stream: u8, behind: &str) -> ArrayString<64>
+    requires before { length before.now ≤ 8 }
+    requires behind { length behind.now ≤ 13 }
+    ensures text { result.bytes ≡ before.now ++ stream_text stream ++ behind.now }
+    ensures most { array_string_len result ≤ length before.now + length behind.now + 27 }
+{
+    let mut text = text_of(before);
+    text.push_str("stream ");
+    text.push_str(decimal_text(u64::from(stream)).as_str());
+    text.push_str(behind);
+    text
+}
+
+fn text_of(words: &str) -> ArrayString<64>
+    requires { length words.now ≤ 64 }
+    ensures text { result.bytes ≡ words.now }
+    ensures len { array_string_len result ≡ length words.now }
+{
+    let mut text = ArrayString::new();
+    text.push_str(words);
+    text
+}
