@@ -1,5 +1,6 @@
 #!/usr/bin/env python3
 """Costs of the jobs on large inputs of this script's own making; bench/README.md says what is printed."""
+import itertools
 import os
 import pathlib
 import re
@@ -22,6 +23,9 @@ JOBS = [
     ["split", "--form", "demo", "--frames", "2"],
     ["pad", "--form", "demo", "--size", "300"],
     ["send"],
+    ["show", "--form", "demo"],
+    ["recv"],
+    ["replay"],
 ]
 
 
@@ -43,6 +47,11 @@ def spelled(k):
     return bytes([0xe3, 0x80 | 48, *sizes[:-1]]) + bytes(t % 256 for t in range(sum(sizes)))
 
 
+def hundred(k):
+    """A packet of 100 bytes with one frame."""
+    return b"\xfc" + bytes((k + t) % 256 for t in range(99))
+
+
 STORES = {"180 to 220 bytes": single, "5 to 60 bytes": short, "48 spelled frames": spelled}
 
 # Instructions a packet that are to be reached.
@@ -55,6 +64,8 @@ GOALS = {
     ("split", "180 to 220 bytes"): 450,
     ("pad", "180 to 220 bytes"): 450,
     ("send", "180 to 220 bytes"): 500,
+    ("recv", "100 bytes"): 600,
+    ("replay", "100 bytes"): 800,
 }
 
 
@@ -85,6 +96,22 @@ def framed(packet):
 def demo(k, packet):
     """A record of a store."""
     return struct.pack(">II", len(packet), k) + packet
+
+
+def captured(k, packet, seq=None):
+    """A record of a capture: an RTP packet with this payload."""
+    rtp = struct.pack(">BBHII", 0x80, 111, (k if seq is None else seq) % 65536, k * 960 % 2**32, 7) + packet
+    return struct.pack(">HHI", len(rtp) + 8, len(rtp), 20 * k) + rtp
+
+
+# What stands in front of a capture's records.
+OPENING = b"#!rtpplay1.0 10.0.0.5/5004\n" + bytes(16)
+
+
+def capture(path, count, step=1):
+    """Writes a capture of so many packets of 100 bytes, with sequence numbers that go on by `step`."""
+    with open(path, "wb") as file:
+        file.write(OPENING + b"".join(captured(k, hundred(k), k * step) for k in range(count)))
 
 
 def store(path, count, payload, record=demo):
@@ -160,6 +187,30 @@ def costs(words, payload, folder):
     return more / 2_000, more / body
 
 
+def receiving(words, step, few, many, folder):
+    """Instructions a packet of a job over captures, behind the first packets of a window."""
+    took = []
+    for count in (few, many):
+        path = pathlib.Path(folder, "capture")
+        capture(path, count, step)
+        took.append(instructions([PROGRAM, *words], path, folder)[0])
+    return (took[1] - took[0]) / (many - few)
+
+
+def parameter_cost(size, folder):
+    """Instructions a parameter that sdp takes for a line of so many bytes, all of unknown names of two or three bytes."""
+    names = ("".join(name) for k in (2, 3) for name in itertools.product("abcdefghijklmnopqrstuvwxyz0123456789-_.", repeat=k))
+    line, count = bytearray(b"a=fmtp:111 "), 0
+    while len(line) < size:
+        name = next(names)
+        if name != "cbr":
+            line += f"{name}=0123456789ab;".encode()
+            count += 1
+    path = pathlib.Path(folder, "line")
+    path.write_bytes(line + b"\n")
+    return instructions([PROGRAM, "sdp"], path, folder)[0] / count
+
+
 def feed_program(folder):
     """Builds the program of feed/main.rs over opus_feed and the crates below it, in a checkout of its own."""
     top = pathlib.Path(folder, "checkout")
@@ -232,6 +283,11 @@ def main():
         if not shutil.which("valgrind"):
             return
         for words in JOBS:
+            if words[0] in ("recv", "replay"):
+                told = f"{receiving(words, 1, 40_000, 44_000, folder):.0f} instructions a packet (goal {GOALS[words[0], '100 bytes']})"
+                far = f"{receiving(words, 32_767, 1_000, 1_200, folder):.0f} where each jumps 32,767 ahead (goal 100000)"
+                print(f"{words[0]}, 100 bytes: {told}, {far}")
+                continue
             for name, payload in STORES.items():
                 if payload is spelled and (words[0] in ("merge", "pad") or "self" in words):
                     continue
@@ -239,6 +295,8 @@ def main():
                 goal = GOALS.get((words[0], name))
                 said = f" (goal {goal})" if goal and "keep" not in words else ""
                 print(f"{' '.join(words)}, {name}: {packet:.0f} instructions a packet{said}, {byte:.2f} a payload byte")
+        for size in (100_000, 1_000_000):
+            print(f"sdp, a line of {size} bytes: {parameter_cost(size, folder):.0f} instructions a parameter")
         program = feed_program(folder)
         for name, (packet, goal) in FEED_GOALS.items():
             print(f"feed, {name}: {feed_cost(program, packet(), folder):.0f} instructions a packet (goal {goal})")

@@ -1,5 +1,6 @@
 //! A capture as an input of records.
-ghost use Rattle.std.specs.Prelude.{◌≡◌, ◌⊎◌, ℕ, ◌+◌, ◌-◌, ◌^◌, ◌<◌, ◌≤◌, List, [], ◌++◌, true, false, length, take, drop, IfOk, vec_len, vec_capacity};
+ghost use Rattle.std.specs.Prelude.{◌≡◌, ◌⊎◌, ℕ, ◌+◌, ◌-◌, ◌<◌, ◌≤◌, List, [], ◌++◌, true, false, length, take, drop, IfOk, vec_len, vec_capacity};
+ghost use Rattle.opus_io.specs.Reader.{max_input};
 ghost use Rattle.dump_records.specs.Wants.{Wants};
 ghost use Rattle.dump_records.specs.Modes.{is_within};
 ghost use Rattle.dump_records.specs.declared.form.Mode.TheVariants as modes;
@@ -84,7 +85,7 @@ impl DumpForm {
     fn more_line(&mut self, at: u64, piece: &[u8]) -> Fed
         requires mode { self.old.mode ≡ modes.Line }
         requires some { 0 < length piece.now }
-        requires fits { at + length piece.now ≤ 2 ^ 40 }
+        requires fits { at + length piece.now ≤ max_input }
         ensures some { 1 ≤ result.count }
         ensures most { result.count ≤ length piece.now }
         ensures fed { Feeds self.old self.new at result (take result.count piece.now) }
@@ -146,7 +147,7 @@ impl DumpForm {
     fn front(&mut self, at: u64, piece: &[u8]) -> Fed
         requires mode { (self.old.mode ≡ modes.Fresh) ⊎ (self.old.mode ≡ modes.Kept) }
         requires two { 2 ≤ length piece.now }
-        requires fits { at + length piece.now ≤ 2 ^ 40 }
+        requires fits { at + length piece.now ≤ max_input }
         ensures some { 1 ≤ result.count }
         ensures most { result.count ≤ length piece.now }
         ensures fed { Feeds self.old self.new at result (take result.count piece.now) }
@@ -220,7 +221,7 @@ impl DumpForm {
     fn second(&mut self, at: u64, piece: &[u8]) -> Fed
         requires mode { self.old.mode ≡ modes.First }
         requires some { 0 < length piece.now }
-        requires fits { at + length piece.now ≤ 2 ^ 40 }
+        requires fits { at + length piece.now ≤ max_input }
         ensures count { result.count ≡ 1 }
         ensures fed { Feeds self.old self.new at result (take 1 piece.now) }
         ensures ready { result.whole ≡ true → IsReady self.new (take 1 piece.now) }
@@ -249,7 +250,7 @@ impl DumpForm {
     fn more(&mut self, at: u64, piece: &[u8]) -> Fed
         requires mode { self.old.mode ≡ modes.Part }
         requires some { 0 < length piece.now }
-        requires fits { at + length piece.now ≤ 2 ^ 40 }
+        requires fits { at + length piece.now ≤ max_input }
         ensures some { 1 ≤ result.count }
         ensures most { result.count ≤ length piece.now }
         ensures fed { Feeds self.old self.new at result (take result.count piece.now) }

@@ -1,5 +1,6 @@
 //! A run of a job over records of a form, as the program tells its end.
-ghost use Rattle.std.specs.Prelude.{◌≡◌, ◌⊎◌, ◌^◌, ◌≤◌, [], IfOk};
+ghost use Rattle.std.specs.Prelude.{◌≡◌, ◌⊎◌, ◌≤◌, [], IfOk};
+ghost use Rattle.opus_io.specs.Reader.{max_input};
 ghost use Rattle.job_loop.specs.Shown.{Shown};
 ghost use Rattle.job_loop.specs.Meaning.{Meaning};
 ghost use Rattle.job_ends.specs.Ends.{MeaningEnds, TellsEnding, seen_as};
@@ -29,7 +30,7 @@ where
     S: Source,
     O: Sink,
     requires some { 1 ≤ limit }
-    requires most { limit ≤ 2 ^ 40 }
+    requires most { limit ≤ max_input }
     requires stands { F.stands records [] [] }
     requires start { J.stands job.old (J.meaning job.old).start }
     // Want of memory comes only where the job or the form may run out, nothing was read, or the sink refused to grow.
@@ -59,7 +60,7 @@ where
     S: Source,
     O: Sink,
     requires some { 1 ≤ limit }
-    requires most { limit ≤ 2 ^ 40 }
+    requires most { limit ≤ max_input }
     requires stands { F.stands records [] [] }
     requires start { IfOk made (λ j. J.stands j (J.meaning j).start) }
     requires spared { IfOk made (λ j. J.lacks j → ⊥) }

@@ -1,5 +1,6 @@
 //! What a form of records has to offer.
-ghost use Rattle.std.specs.Prelude.{◌≡◌, ◌+◌, ◌^◌, ◌≤◌, ◌<◌, ℕ, List, [], ◌++◌, Option, true, take, length, IfOk, OnErr};
+ghost use Rattle.std.specs.Prelude.{◌≡◌, ◌+◌, ◌≤◌, ◌<◌, ℕ, List, [], ◌++◌, Option, true, take, length, IfOk, OnErr};
+ghost use Rattle.opus_io.specs.Reader.{max_input};
 ghost use Rattle.job_loop.specs.Shown.{Shown};
 ghost use Rattle.job_loop.specs.Forms.{HasFed, HasEnded, Begins};
 
@@ -69,7 +70,7 @@ pub trait Form {
     /// No memory for what has to be kept. Nothing more may be fed then.
     fn feed(&mut self, at: u64, piece: &[u8]) -> Result<Fed, NoMemory>
         requires some { 0 < length piece.now }
-        requires fits { at + length piece.now ≤ 2 ^ 40 }
+        requires fits { at + length piece.now ≤ max_input }
         ensures some { IfOk result (λ f. 1 ≤ f.count) }
         ensures most { IfOk result (λ f. f.count ≤ length piece.now) }
         ensures same { layout self.new ≡ layout self.old }
@@ -88,7 +89,7 @@ pub trait Form {
 
     /// What the end of the input makes of the bytes so far, of which there are `at`.
     fn end(&mut self, at: u64) -> Close<Self::Cut>
-        requires fits { at ≤ 2 ^ 40 }
+        requires fits { at ≤ max_input }
         ensures same { layout self.new ≡ layout self.old }
         ensures ends { (h : List ℕ) (rs : List (Shown Self.Record)) → stands self.old h rs → length h ≡ at
             → (own : List ℕ)

@@ -1,5 +1,6 @@
 //! A run of a job over a source, from its first byte to its answer.
-ghost use Rattle.std.specs.Prelude.{◌≡◌, ◌⊎◌, ◌+◌, ◌^◌, ◌≤◌, ℕ, List, [], false, Option, IfSome};
+ghost use Rattle.std.specs.Prelude.{◌≡◌, ◌⊎◌, ◌+◌, ◌≤◌, ℕ, List, [], false, Option, IfSome};
+ghost use Rattle.opus_io.specs.Reader.{max_input};
 ghost use Rattle.std.specs.Io.KnownBytes.{Appends};
 ghost use Rattle.opus_io.specs.Cause.{RoseWhere};
 ghost use Rattle.opus_io.specs.Sink.{Onward};
@@ -37,7 +38,7 @@ where
     S: Source,
     O: Sink,
     requires some { 1 ≤ limit }
-    requires most { limit ≤ 2 ^ 40 }
+    requires most { limit ≤ max_input }
     requires form { F.stands form [] [] }
     requires start { J.stands job.old (J.meaning job.old).start }
     ensures ran { Ran (J.meaning job.old) (F.settles (F.layout form)) (F.ends (F.layout form)) F.place limit

@@ -1,5 +1,6 @@
 //! The records of an input, read one after the other.
-ghost use Rattle.std.specs.Prelude.{◌≡◌, ℕ, ◌<◌, ◌≤◌, ◌^◌, List, [], true, false, take, length, ◌-◌, OnOk, OnErr};
+ghost use Rattle.std.specs.Prelude.{◌≡◌, ℕ, ◌<◌, ◌≤◌, List, [], true, false, take, length, ◌-◌, OnOk, OnErr};
+ghost use Rattle.opus_io.specs.Reader.{max_input};
 ghost use Rattle.std.specs.Io.KnownBytes.{IsAtEnd};
 ghost use Rattle.opus_io.specs.Source.{SourceCause};
 ghost use Rattle.opus_io.specs.Reader.{Stays};
@@ -83,7 +84,7 @@ impl<F: Form> Records<F> {
     fn idle(&mut self) -> Turn<F::Cut>
         requires nothing { take (self.old.reader.limit - self.old.reader.passed) self.old.reader.bytes ≡ [] }
         requires in_limit { self.old.reader.passed ≤ self.old.reader.limit }
-        requires most { self.old.reader.passed ≤ 2 ^ 40 }
+        requires most { self.old.reader.passed ≤ max_input }
         ensures moves { Moves result self.old.reader self.new.reader self.old.over }
         ensures turn { (h : List ℕ) (rs : List (Shown F.Record)) → F.stands self.old.form h rs
             → length h ≡ self.old.reader.passed

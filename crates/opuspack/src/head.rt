@@ -1,5 +1,6 @@
 //! The job head: lines that tell of the OpusHead that is the whole input (RFC 7845, 5.1; RFC 8486).
-ghost use Rattle.std.specs.Prelude.{◌≡◌, ◌^◌, ◌≤◌, ◌++◌, OnOk, OnErr, length};
+ghost use Rattle.std.specs.Prelude.{◌≡◌, ◌≤◌, ◌++◌, OnOk, OnErr, length};
+ghost use Rattle.opus_io.specs.Reader.{max_input};
 ghost use Rattle.std.specs.Io.KnownBytes.{Appends};
 ghost use Rattle.opus_io.specs.Sink.{SinkCause, Onward};
 ghost use Rattle.job_loop.specs.Telling.{Front};
@@ -37,7 +38,7 @@ pub(crate) fn head_job<S: Source, O: Sink>(
     out: &mut O,
 ) -> Ending
     requires some { 1 ≤ limit }
-    requires most { limit ≤ 2 ^ 40 }
+    requires most { limit ≤ max_input }
     ensures { HeadEnds limit
         (record {
           left = S.left source.old;

@@ -1,5 +1,6 @@
 //! The jobs over packets, by their kinds and forms.
-ghost use Rattle.std.specs.Prelude.{◌≡◌, ◌^◌, ◌≤◌, [], IfOk};
+ghost use Rattle.std.specs.Prelude.{◌≡◌, ◌≤◌, [], IfOk};
+ghost use Rattle.opus_io.specs.Reader.{max_input};
 ghost use Rattle.job_loop.specs.Shown.{Shown};
 ghost use Rattle.job_loop.specs.Meaning.{Meaning};
 ghost use Rattle.job_ends.specs.Ends.{seen_as};
@@ -60,7 +61,7 @@ pub fn pack_job<S: Source, O: Sink>(
     out: &mut O,
 ) -> Ending
     requires some { 1 ≤ limit }
-    requires most { limit ≤ 2 ^ 40 }
+    requires most { limit ≤ max_input }
     requires job { IsPackJob job.now }
     ensures { PackEnds job.now limit
         (seen_as (S.left source.old) (S.faults source.old) (O.contents out.old) (O.faults out.old) (O.refusals out.old))
@@ -105,7 +106,7 @@ where
     S: Source,
     O: Sink,
     requires some { 1 ≤ limit }
-    requires most { limit ≤ 2 ^ 40 }
+    requires most { limit ≤ max_input }
     requires kind { IsPackKind job.now.kind }
     requires stands { IfOk records (λ f. F.stands f [] []) }
     requires place { F.place ≡ place_of }
@@ -136,7 +137,7 @@ where
     S: Source,
     O: Sink,
     requires some { 1 ≤ limit }
-    requires most { limit ≤ 2 ^ 40 }
+    requires most { limit ≤ max_input }
     requires kind { IsPackKind job.now.kind }
     requires stands { F.stands records [] [] }
     requires place { F.place ≡ place_of }
@@ -191,7 +192,7 @@ where
     S: Source,
     O: Sink,
     requires some { 1 ≤ limit }
-    requires most { limit ≤ 2 ^ 40 }
+    requires most { limit ≤ max_input }
     requires stands { F.stands records [] [] }
     requires place { F.place ≡ place_of }
     requires form_spared { (layout : F.Layout) → F.lacks layout → ⊥ }

@@ -1,5 +1,6 @@
 //! An `opus_demo` store as an input of packets.
-ghost use Rattle.std.specs.Prelude.{◌≡◌, ◌↔◌, ℕ, ◌+◌, ◌-◌, ◌^◌, ◌<◌, ◌≤◌, List, [], true, false, length, take, drop, IfOk};
+ghost use Rattle.std.specs.Prelude.{◌≡◌, ◌↔◌, ℕ, ◌+◌, ◌-◌, ◌<◌, ◌≤◌, List, [], true, false, length, take, drop, IfOk};
+ghost use Rattle.opus_io.specs.Reader.{max_input};
 ghost use Rattle.std.specs.Int.{w32, to_be_bytes};
 ghost use Rattle.rec_store.specs.DemoStore.{demo_head};
 ghost use Rattle.opus_feed.specs.declared.framing.Framing.TheVariants.{Whole as WholeFraming};
@@ -75,7 +76,7 @@ impl DemoForm {
         requires mode { self.old.mode ≡ modes.Head }
         requires none { self.old.head.items ≡ [] }
         requires head { 8 ≤ length piece.now }
-        requires fits { at + length piece.now ≤ 2 ^ 40 }
+        requires fits { at + length piece.now ≤ max_input }
         ensures some { 1 ≤ result.count }
         ensures most { result.count ≤ length piece.now }
         ensures same { Same self.old.pieces self.new.pieces }
@@ -96,7 +97,7 @@ impl DemoForm {
     #[inline(always)]
     fn lies(&mut self, start: u64, head: DemoHead, piece: &[u8]) -> bool
         requires head { 8 ≤ length piece.now }
-        requires fits { start + length piece.now ≤ 2 ^ 40 + 8 }
+        requires fits { start + length piece.now ≤ max_input + 8 }
         ensures some { result ≡ true → 1 ≤ head.len }
         ensures most { result ≡ true → 8 + head.len ≤ length piece.now }
         ensures packet { result ≡ true → HoldsPacket self.old.pieces.padding WholeFraming start head.range
@@ -118,7 +119,7 @@ impl DemoForm {
     fn more_head(&mut self, at: u64, piece: &[u8]) -> Fed
         requires mode { self.old.mode ≡ modes.Head }
         requires some { 0 < length piece.now }
-        requires fits { at + length piece.now ≤ 2 ^ 40 }
+        requires fits { at + length piece.now ≤ max_input }
         ensures some { 1 ≤ result.count }
         ensures most { result.count ≤ length piece.now }
         ensures same { Same self.old.pieces self.new.pieces }
@@ -165,7 +166,7 @@ impl DemoForm {
     fn more_payload(&mut self, at: u64, piece: &[u8]) -> Fed
         requires mode { self.old.mode ≡ modes.Payload }
         requires some { 0 < length piece.now }
-        requires fits { at + length piece.now ≤ 2 ^ 40 }
+        requires fits { at + length piece.now ≤ max_input }
         ensures some { 1 ≤ result.count }
         ensures most { result.count ≤ length piece.now }
         ensures same { Same self.old.pieces self.new.pieces }

@@ -1,5 +1,6 @@
 //! Self-delimited packets one after another (RFC 6716, Appendix B).
-ghost use Rattle.std.specs.Prelude.{◌≡◌, ◌+◌, ◌^◌, ◌<◌, ◌≤◌, ℕ, List, [], ◌++◌, true, false, length, take, IfOk};
+ghost use Rattle.std.specs.Prelude.{◌≡◌, ◌+◌, ◌<◌, ◌≤◌, ℕ, List, [], ◌++◌, true, false, length, take, IfOk};
+ghost use Rattle.opus_io.specs.Reader.{max_input};
 ghost use Rattle.job_loop.specs.Shown.{Shown};
 ghost use Rattle.opus_feed.specs.declared.framing.Framing.TheVariants.{SelfDelimited};
 ghost use Rattle.opus_feed.specs.declared.padding.Padding.{Padding as PaddingChoice};
@@ -62,7 +63,7 @@ impl SelfForm {
     #[inline(never)]
     fn begin(&mut self, at: u64, piece: &[u8]) -> Fed
         requires some { 0 < length piece.now }
-        requires fits { at + length piece.now ≤ 2 ^ 40 }
+        requires fits { at + length piece.now ≤ max_input }
         ensures some { 1 ≤ result.count }
         ensures most { result.count ≤ length piece.now }
         ensures padding { self.new.pieces.padding ≡ self.old.pieces.padding }
@@ -81,7 +82,7 @@ impl SelfForm {
     #[inline(never)]
     fn go_on(&mut self, at: u64, piece: &[u8]) -> Fed
         requires some { 0 < length piece.now }
-        requires fits { at + length piece.now ≤ 2 ^ 40 }
+        requires fits { at + length piece.now ≤ max_input }
         requires mode { self.old.mode ≡ WithinMode }
         ensures some { 1 ≤ result.count }
         ensures most { result.count ≤ length piece.now }

@@ -1,5 +1,6 @@
 //! One record's packet, read where it lies or in pieces, and what is lent of it.
 ghost use Rattle.std.specs.Prelude.{◌≡◌, ◌≤◌, vec_capacity};
+ghost use Rattle.opus_io.specs.Reader.{max_input};
 
 use crate::form::{MOST_KEPT, is_form, write_form};
 use crate::item::{Found, Item};
@@ -71,7 +72,7 @@ impl Pieces {
     /// Takes the next bytes of a packet whose first byte stands at `start`. The first of these stands at `at`.
     pub(crate) fn take(&mut self, start: u64, range: u32, at: u64, piece: &[u8]) -> Taken
         requires some { 0 < length piece.now }
-        requires fits { at + length piece.now ≤ 2 ^ 40 }
+        requires fits { at + length piece.now ≤ max_input }
         ensures taken { (h : List ℕ) → PieceStands self.old h → start + length h ≡ at
             → HasTaken self.new start range h piece.now result }
         ensures count { IsCount result (length piece.now) }
@@ -100,7 +101,7 @@ impl Pieces {
     pub(crate) fn here(&mut self, start: u64, range: u32, before: usize, own: &[u8]) -> bool
         requires before { before ≤ length own.now }
         requires framing { self.old.framing ≡ WholeFraming }
-        requires fits { start + (length own.now - before) ≤ 2 ^ 40 }
+        requires fits { start + (length own.now - before) ≤ max_input }
         ensures packet { result ≡ true → HoldsPacket self.old.padding WholeFraming start range
             (drop before own.now) (shown_by self.new own.now) }
         ensures ready { result ≡ true → IsReady self.new own.now }
@@ -120,7 +121,7 @@ impl Pieces {
     #[inline(always)]
     pub(crate) fn here_first(&mut self, start: u64, shown: &[u8]) -> Option<usize>
         requires framing { self.old.framing ≡ SelfDelimited }
-        requires fits { start + length shown.now ≤ 2 ^ 40 }
+        requires fits { start + length shown.now ≤ max_input }
         ensures packet { IfSome result (λ used. HoldsPacket self.old.padding SelfDelimited start 0
             (take used shown.now) (shown_by self.new (take used shown.now))) }
         ensures count { IfSome result (λ used. (1 ≤ used) × (used ≤ length shown.now)) }

@@ -1,5 +1,6 @@
 //! An `opus_demo` store as an input of multistream packets.
 ghost use Rattle.std.specs.Prelude.{◌≤◌, ◌<◌, length};
+ghost use Rattle.opus_io.specs.Reader.{max_input};
 
 use crate::item::StreamsItem;
 use crate::stream_pieces::StreamPieces;
@@ -39,7 +40,7 @@ pub struct DemoStreams {
 }
 
 impl DemoStreams {
-    ghost use Rattle.std.specs.Prelude.{◌≡◌, ℕ, ◌+◌, ◌-◌, ◌^◌, List, [], ◌++◌, true, false, take, IfOk};
+    ghost use Rattle.std.specs.Prelude.{◌≡◌, ℕ, ◌+◌, ◌-◌, List, [], ◌++◌, true, false, take, IfOk};
     ghost use Rattle.job_loop.specs.Shown.{Shown};
     ghost use Rattle.stream_records.specs.declared.demo.Mode.TheVariants as modes;
     ghost use Rattle.stream_records.specs.declared.item.StreamsItem.{StreamsItem};
@@ -72,7 +73,7 @@ impl DemoStreams {
     fn more_head(&mut self, at: u64, piece: &[u8]) -> Fed
         requires mode { self.old.mode ≡ modes.Head }
         requires some { 0 < length piece.now }
-        requires fits { at + length piece.now ≤ 2 ^ 40 }
+        requires fits { at + length piece.now ≤ max_input }
         ensures some { 1 ≤ result.count }
         ensures most { result.count ≤ length piece.now }
         ensures same { choices_of self.new.pieces ≡ choices_of self.old.pieces }
@@ -118,7 +119,7 @@ impl DemoStreams {
     fn more_payload(&mut self, at: u64, piece: &[u8]) -> Fed
         requires mode { self.old.mode ≡ modes.Payload }
         requires some { 0 < length piece.now }
-        requires fits { at + length piece.now ≤ 2 ^ 40 }
+        requires fits { at + length piece.now ≤ max_input }
         ensures some { 1 ≤ result.count }
         ensures most { result.count ≤ length piece.now }
         ensures same { choices_of self.new.pieces ≡ choices_of self.old.pieces }

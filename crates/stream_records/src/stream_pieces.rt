@@ -1,5 +1,6 @@
 //! One record's multistream packet, read in pieces, and what is lent of it.
 ghost use Rattle.std.specs.Prelude.{◌≡◌, ◌≤◌, ◌*◌, length, drop, vec_capacity};
+ghost use Rattle.opus_io.specs.Reader.{max_input};
 ghost use Rattle.opus_multi.specs.MultistreamFault.{framing_of};
 
 use crate::durations::Durations;
@@ -31,7 +32,7 @@ pub(crate) struct StreamPieces {
 }
 
 impl StreamPieces {
-    ghost use Rattle.std.specs.Prelude.{ℕ, ◌+◌, ◌-◌, ◌^◌, ◌<◌, List, [], ◌++◌, take, IfOk};
+    ghost use Rattle.std.specs.Prelude.{ℕ, ◌+◌, ◌-◌, ◌<◌, List, [], ◌++◌, take, IfOk};
     ghost use Rattle.opus_feed.specs.Feeds.{Stands};
     ghost use Rattle.opus_feed.specs.Steps.{IsReading, IsWhole};
     ghost use Rattle.opus_feed.specs.declared.framing.Framing.TheVariants.{SelfDelimited};
@@ -91,7 +92,7 @@ impl StreamPieces {
     /// Takes the next bytes of a record whose first byte stands at `start`. The first of these stands at `at`.
     pub(crate) fn take(&mut self, start: u64, range: u32, at: u64, piece: &[u8]) -> Taken
         requires some { 0 < length piece.now }
-        requires fits { at + length piece.now ≤ 2 ^ 40 }
+        requires fits { at + length piece.now ≤ max_input }
         ensures taken { (h : List ℕ) → Reads self.old start h → start + length h ≡ at
             → HasTaken self.new start range h piece.now result }
         ensures count { IsCount result (length piece.now) }

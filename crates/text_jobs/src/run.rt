@@ -1,5 +1,6 @@
 //! A run of the job over lines.
-ghost use Rattle.std.specs.Prelude.{◌≡◌, ◌^◌, ◌≤◌};
+ghost use Rattle.std.specs.Prelude.{◌≡◌, ◌≤◌};
+ghost use Rattle.opus_io.specs.Reader.{max_input};
 ghost use Rattle.job_ends.specs.Ends.{MeaningEnds, seen_as};
 ghost use Rattle.text_jobs.specs.Sdp.{sdp, TellsSdp};
 ghost use Rattle.text_jobs.specs.Lines.{place_of, LineSettles, LineEnds};
@@ -21,7 +22,7 @@ pub fn text_job<S: Source, O: Sink>(
     out: &mut O,
 ) -> Ending
     requires some { 1 ≤ limit }
-    requires most { limit ≤ 2 ^ 40 }
+    requires most { limit ≤ max_input }
     ensures { MeaningEnds TellsSdp place_of sdp LineSettles LineEnds limit
         (seen_as (S.left source.old) (S.faults source.old) (O.contents out.old) (O.faults out.old) (O.refusals out.old))
         (seen_as (S.left source.new) (S.faults source.new) (O.contents out.new) (O.faults out.new) (O.refusals out.new))

@@ -1,5 +1,6 @@
 //! A byte that gives a length, and so many bytes.
-ghost use Rattle.std.specs.Prelude.{◌≡◌, ◌+◌, ◌-◌, ◌^◌, true, false, ◌<◌, ◌≤◌, ℕ, List, [], ◌++◌, length, take, drop, min};
+ghost use Rattle.std.specs.Prelude.{◌≡◌, ◌+◌, ◌-◌, true, false, ◌<◌, ◌≤◌, ℕ, List, [], ◌++◌, length, take, drop, min};
+ghost use Rattle.opus_io.specs.Reader.{max_input};
 ghost use Rattle.job_loop.specs.Shown.{Shown};
 ghost use Rattle.job_loop.specs.Samples.{LengthSettles, LengthEnds, LengthStands, lent_from, lent_record};
 ghost use Rattle.job_loop.specs.SampleLaws.{length_grows, length_ends_grow, length_ends_once, length_settled};
@@ -46,7 +47,7 @@ impl LengthForm {
     fn go_on(&mut self, at: u64, piece: &[u8]) -> Fed
         requires some { 0 < length piece.now }
         requires open { self.old.count < self.old.need }
-        requires fits { at + length piece.now ≤ 2 ^ 40 }
+        requires fits { at + length piece.now ≤ max_input }
         ensures count { result.count ≡ min (length piece.now) (self.old.need - self.old.count) }
         ensures kept { take self.new.count self.new.kept
             ≡ take self.old.count self.old.kept ++ take result.count piece.now }
