@@ -11,7 +11,7 @@ use Rattle.clap.specs.Faults.{fault_of}
 use Rattle.clap.specs.Kinds.{Kinds}
 use Rattle.opus_words.specs.CommandLine.{command_app, line_of}
 use Rattle.opus_words.specs.Fit.{IsBetween, IsFit, IsFormFor, IsNumberFor, IsPaddingFor, number_at}
-use Rattle.opus_words.specs.Jobs.{form_name, form_within, forms_of, has_own_stream, is_built, is_form}
+use Rattle.opus_words.specs.Jobs.{form_name, form_within, forms_of, has_own_stream, is_form}
 use Rattle.opus_words.specs.Jobs.{is_self_of_many}
 use Rattle.opus_words.specs.Number.{is_number, number_within, value_of}
 use Rattle.opus_words.specs.Options.{lack_of, options, row_of}
@@ -233,13 +233,11 @@ unfaulted : (o : Option Opt) (fault : Opt → UsageKind) (next : Result Job Usag
 unfaulted None fault next job h = (refl, h)
 unfaulted (Some o) fault next job h = absurd (cc)
 
-weighed_fits : (a b c : Bool) (x y z : UsageKind) (j job : Job)
-    → (if not a then Err x else (if b then Err y else (if c then Ok j else Err z))) ≡ Ok job
-    → (j ≡ job) × (a ≡ true) × (b ≡ false) × (c ≡ true)
-weighed_fits true false true x y z j job h = (cc, refl, refl, refl)
-weighed_fits true false false x y z j job h = absurd (cc)
-weighed_fits true true c x y z j job h = absurd (cc)
-weighed_fits false b c x y z j job h = absurd (cc)
+weighed_fits : (a b : Bool) (x y : UsageKind) (j job : Job)
+    → (if not a then Err x else (if b then Err y else Ok j)) ≡ Ok job → (j ≡ job) × (a ≡ true) × (b ≡ false)
+weighed_fits true false x y j job h = (cc, refl, refl)
+weighed_fits true true x y j job h = absurd (cc)
+weighed_fits false b x y j job h = absurd (cc)
 
 judged_fits : (kind : JobKind) (rows : List Row) (job : Job) → judged kind rows ≡ Ok job → IsFit job
 judged_fits kind rows job h =
@@ -247,7 +245,7 @@ judged_fits kind rows job h =
     let fit = unfaulted (find (is_unfit kind rows) options) _ _ job own.1 in
     let whole = unfaulted (find (is_missing kind rows) options) _ _ job fit.1 in
     let j : Job = job_with kind rows in
-    let w = weighed_fits (has_own_stream j) (is_self_of_many j) (is_built j) _ _ _ j job whole.1 in
+    let w = weighed_fits (has_own_stream j) (is_self_of_many j) _ _ j job whole.1 in
     let unfit = none_left (is_unfit kind rows) fit.0 in
     let missing = none_left (is_missing kind rows) whole.0 in
     let this : IsFit j = record {
@@ -256,7 +254,6 @@ judged_fits kind rows job h =
       padding = padding_for kind (lack_of opt.Padding kind) (text_of rows opt.Padding) (unfit opt.Padding);
       own_stream = w.1;
       not_self_of_many = w.2;
-      built = w.3;
     } in
     subst IsFit w.0 this
 

@@ -2,7 +2,7 @@
 use Rattle.std.specs.Prelude.{◌≡◌, ◌≤◌, ℕ, true, false, List, [], ◌∷◌, Option, Some, None, IfSome}
 use Rattle.std.specs.Prelude.{IsSome, IsSomeAnd}
 use Rattle.std.specs.List.{list_any}
-use Rattle.opus_words.specs.Jobs.{forms_of, has_own_stream, is_built, is_form, is_self_of_many}
+use Rattle.opus_words.specs.Jobs.{forms_of, has_own_stream, is_form, is_self_of_many}
 use Rattle.opus_words.specs.Options.{lack_of, row_of}
 use Rattle.opus_feed.specs.declared.padding.Padding.{Padding}
 use Rattle.opus_words.specs.declared.form.Form.{Form}
@@ -60,4 +60,3 @@ pub record IsFit (job : Job) : Type 0 where
   pub padding : IsPaddingFor (lack_of opt.Padding job.kind) job.padding
   pub own_stream : has_own_stream job ≡ true
   pub not_self_of_many : is_self_of_many job ≡ false
-  pub built : is_built job ≡ true

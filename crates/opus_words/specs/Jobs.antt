@@ -1,8 +1,7 @@
--- The jobs: their names, the forms that each takes, and what of them the program does.
-use Rattle.std.specs.Prelude.{ℕ, ◌&&◌, ◌==◌, Bool, true, false, List, [], ◌∷◌}
+-- The jobs: their names, and the forms that each takes.
+use Rattle.std.specs.Prelude.{ℕ, Bool, true, false, List, [], ◌∷◌}
 use Rattle.std.specs.Prelude.{Option, Some, codes, find}
 use Rattle.std.specs.Prelude.{nat_lt}
-use Rattle.std.specs.Option.{option_map_or}
 use Rattle.std.specs.Str.{bytes_eq}
 use Rattle.opus_words.specs.declared.form.Form.{Form}
 use Rattle.opus_words.specs.declared.form.Form.TheVariants.{Raw, Demo, SelfDelimited}
@@ -95,35 +94,9 @@ is_self_and_many _ _ = false
 abbrev pub is_self_of_many : Job → Bool
 is_self_of_many job = is_self_and_many job.form job.streams
 
--- ---- what the program does
-
+-- two forms are one
 abbrev pub is_form : Form → Form → Bool
 is_form Raw Raw = true
 is_form Demo Demo = true
 is_form SelfDelimited SelfDelimited = true
 is_form _ _ = false
-
-abbrev pub is_of_streams : Job → ℕ → Bool
-is_of_streams job streams = option_map_or (λ n. n == streams) job.streams false
-
-abbrev pub is_built_of : JobKind → Job → Bool
-is_built_of Norm job = is_of_streams job 1
-is_built_of Check job = is_of_streams job 1
-is_built_of Show job = is_of_streams job 1
-is_built_of Merge job = true
-is_built_of Split job = true
-is_built_of Pad job = true
-is_built_of Apart job = false
-is_built_of Join job = false
-is_built_of Extract job = false
-is_built_of Head job = true
-is_built_of Send job = true
-is_built_of Recv job = true
-is_built_of Replay job = true
-is_built_of Sdp job = true
-is_built_of Make job = true
-is_built_of Trial job = true
-
--- the program does this job
-abbrev pub is_built : Job → Bool
-is_built job = is_built_of job.kind job

@@ -8,7 +8,7 @@ use Rattle.clap.specs.Faults.{fault_of}
 use Rattle.clap.specs.Kinds.{Kinds}
 use Rattle.clap.specs.Words.{Row, first_of, matches_of}
 use Rattle.opus_words.specs.CommandLine.{command_app, line_of}
-use Rattle.opus_words.specs.Jobs.{form_within, forms_of, has_own_stream, is_built, is_self_of_many}
+use Rattle.opus_words.specs.Jobs.{form_within, forms_of, has_own_stream, is_self_of_many}
 use Rattle.opus_words.specs.Jobs.{kind_named}
 use Rattle.opus_words.specs.Number.{number_within}
 use Rattle.opus_words.specs.Options.{lack_of, option_name, options, row_of}
@@ -127,12 +127,11 @@ abbrev pub first_fault : Option Opt → (Opt → UsageKind) → Result Job Usage
 first_fault (Some o) fault next = Err (fault o)
 first_fault None fault next = next
 
--- the rules between options, and last what the program doesn't do yet
+-- the rules between options
 abbrev pub weighed : Job → Result Job UsageKind
 weighed job =
     if not (has_own_stream job) then Err (usage.Value opt.Stream)
-    else (if is_self_of_many job then Err (usage.Value opt.Streams)
-    else (if is_built job then Ok job else Err usage.NotBuilt))
+    else (if is_self_of_many job then Err (usage.Value opt.Streams) else Ok job)
 
 -- first an option that isn't the job's, then a value that isn't allowed, then an option that is
 -- missing, each the first one in the order of the table

@@ -18,8 +18,6 @@ pub enum UsageKind {
     Value(Opt),
     /// The job needs the option.
     Missing(Opt),
-    /// The program doesn't do this job yet.
-    NotBuilt,
 }
 
 /// Why there is no job.

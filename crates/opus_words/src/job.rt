@@ -1,7 +1,6 @@
 //! A job with its options.
 ghost use Rattle.std.specs.Prelude.{◌≡◌};
-ghost use Rattle.opus_words.specs.Jobs.{has_own_stream, is_built, is_self_of_many};
-ghost use Rattle.opus_words.specs.Jobs.{is_of_streams};
+ghost use Rattle.opus_words.specs.Jobs.{has_own_stream, is_self_of_many};
 
 use crate::form::Form;
 use crate::kind::JobKind;
@@ -40,36 +39,6 @@ pub struct Job {
 }
 
 impl Job {
-    /// The program does this job: one line a job.
-    pub(crate) fn is_built(&self) -> bool
-        ensures { result ≡ is_built self.now }
-    {
-        match self.kind {
-            JobKind::Norm => self.is_of_streams(1),
-            JobKind::Check => self.is_of_streams(1),
-            JobKind::Show => self.is_of_streams(1),
-            JobKind::Merge => true,
-            JobKind::Split => true,
-            JobKind::Pad => true,
-            JobKind::Apart => false,
-            JobKind::Join => false,
-            JobKind::Extract => false,
-            JobKind::Head => true,
-            JobKind::Send => true,
-            JobKind::Recv => true,
-            JobKind::Replay => true,
-            JobKind::Sdp => true,
-            JobKind::Make => true,
-            JobKind::Trial => true,
-        }
-    }
-
-    fn is_of_streams(&self, streams: u8) -> bool
-        ensures { result ≡ is_of_streams self.now streams }
-    {
-        self.streams == Some(streams)
-    }
-
     /// No stream is named, or one below the number of streams.
     pub(crate) fn has_own_stream(&self) -> bool
         ensures { result ≡ has_own_stream self.now }

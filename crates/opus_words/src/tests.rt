@@ -107,6 +107,31 @@ fn takes_show_recv_replay_and_sdp(rt: HostRuntime) -> Result<(), Fail> {
 }
 
 #[test]
+fn takes_the_jobs_over_streams(rt: HostRuntime) -> Result<(), Fail> {
+    let rows = [
+        ("apart --streams 255", JobKind::Apart, 255, None),
+        ("join --streams 1", JobKind::Join, 1, None),
+        (
+            "extract --streams 255 --stream 254",
+            JobKind::Extract,
+            255,
+            Some(254),
+        ),
+    ];
+    for (line, kind, streams, stream) in rows {
+        let mut job = SEND;
+        (job.kind, job.pt, job.seq) = (kind, None, None);
+        (job.stamp, job.ssrc) = (None, None);
+        (job.streams, job.stream) = (Some(streams), stream);
+        assert_eq!(rt; answer(rt.alloc(), line)?, Ok(job), "{line}");
+    }
+    let mut norm = NORM;
+    norm.streams = Some(2);
+    assert_eq!(rt; answer(rt.alloc(), "norm --streams 2")?, Ok(norm));
+    Ok(())
+}
+
+#[test]
 fn takes_split_with_its_frames(rt: HostRuntime) -> Result<(), Fail> {
     let rows = [
         ("split", Form::Demo, 1),
@@ -208,12 +233,6 @@ make --seed 3 = Missing(Count)
 trial = Missing(Count)
 extract --streams 2 --stream 2 = Value(Stream)
 norm --form self --streams 2 = Value(Streams)
-norm --streams 2 = NotBuilt
-check --streams 2 = NotBuilt
-show --streams 2 = NotBuilt
-apart --streams 255 = NotBuilt
-join --streams 1 = NotBuilt
-extract --streams 255 --stream 254 = NotBuilt
 ";
 
 #[test]

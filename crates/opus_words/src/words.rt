@@ -56,7 +56,7 @@ fn judge(matches: &ArgMatches<'_>, kind: JobKind) -> Result<Job, UsageKind>
     weigh(job(matches, kind))
 }
 
-/// The rules between options, and last what the program doesn't do yet.
+/// The rules between options.
 fn weigh(job: Job) -> Result<Job, UsageKind>
     ensures { result ≡ weighed job }
 {
@@ -64,9 +64,7 @@ fn weigh(job: Job) -> Result<Job, UsageKind>
         Err(UsageKind::Value(Opt::Stream))
     } else if job.is_self_of_many() {
         Err(UsageKind::Value(Opt::Streams))
-    } else if job.is_built() {
-        Ok(job)
     } else {
-        Err(UsageKind::NotBuilt)
+        Ok(job)
     }
 }
