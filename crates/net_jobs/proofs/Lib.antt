@@ -8,3 +8,6 @@ mod StandardFacts
 pub mod TellLemmas
 pub mod ReceiveLemmas
 pub mod MissingLemmas
+mod CaptureFacts
+pub mod ReportLemmas
+pub mod CountLemmas

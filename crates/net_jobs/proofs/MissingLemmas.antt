@@ -1,11 +1,9 @@
 -- How many numbers can be missing among so many arrivals: between the least and the greatest number that arrived there are
 -- at most 32,768 for each arrival.
-use Rattle.std.proofs.Common.{◌≡◌, ℕ, zero, suc, ◌+◌, ◌-◌, ◌*◌, ◌%◌, ◌<◌, ◌≤◌, ◌^◌, max, nat_le, nat_lt, Bool, true, false, if◌then◌else◌, List, [], ◌∷◌, ◌++◌, length, refl, sym, ap, ◌∙◌, subst, arith}
+use Rattle.std.proofs.Common.{◌≡◌, ℕ, ◌+◌, ◌-◌, ◌*◌, ◌<◌, ◌≤◌, max, nat_le, nat_lt, Bool, true, false, if◌then◌else◌, List, [], ◌∷◌, length, refl, sym, subst, arith}
 use Rattle.std.specs.List.{AllByRecursion}
 use Rattle.std.proofs.lemmas.List.Sums.{sum_by-cons, sum_by-append}
-use Rattle.std.proofs.lemmas.Bool.{le-ltb, lt-ltb}
-use Rattle.rtp_ends.specs.declared.event.Event.{Event}
-use Rattle.rtp_ends.specs.Numbers.{Heard, Placed, ahead_of, place_after, placed_at, placed_after, placed}
+use Rattle.rtp_ends.specs.Numbers.{Heard, Placed, ahead_of, place_after, placed_after, placed}
 use Rattle.rtp_ends.specs.Order.{put, put_all, ordered, Ascend}
 use Rattle.rtp_ends.specs.Report.{packet_event, gap_between, events_after, events_of, arrival_report}
 use Rattle.rtp_ends.proofs.OrderLemmas.{by_order, put-first, put-same, put-later}
@@ -13,6 +11,17 @@ use Rattle.rtp_ends.proofs.AscendLemmas.{ordered-ascends}
 use Rattle.net_jobs.specs.Tell.{missing_of, missing_in}
 
 -- ---- a place behind the others
+
+above_by : (greatest ahead : ℕ) (b : Bool) → nat_le ahead 32768 ≡ b
+    → greatest < (if b then greatest + ahead else greatest + ahead - 65536) + 32768
+above_by greatest ahead true test = omega arith
+above_by greatest ahead false test =
+    let some : 32768 < ahead = search (arith, test) in
+    omega arith
+
+pub place_above : (greatest seq : ℕ) → greatest < place_after greatest seq + 32768
+unfolding place_after
+place_above greatest seq = above_by greatest (ahead_of greatest seq) (nat_le (ahead_of greatest seq) 32768) refl
 
 record IsNear (greatest place : ℕ) : Type 0 where
   pub above : greatest < place + 32768

@@ -1,5 +1,5 @@
 -- What the object of recv and replay stands for behind one record more, and when it is closed.
-use Rattle.std.proofs.Common.{◌≡◌, ℕ, ◌+◌, ◌<◌, ◌≤◌, ◌^◌, List, [], ◌∷◌, ◌++◌, length, drop, Option, None, Some, unwrap_or, refl, sym, ap, ◌∙◌, subst, append-nil, arith}
+use Rattle.std.proofs.Common.{◌≡◌, ℕ, ◌+◌, ◌≤◌, ◌^◌, List, [], ◌∷◌, ◌++◌, length, drop, Option, None, Some, unwrap_or, refl, sym, ap, ◌∙◌, subst, arith}
 use Rattle.std.proofs.lemmas.List.{drop_at, drop_all}
 use Rattle.std.proofs.lemmas.List.Sums.{sum_by-append}
 use Rattle.rec_store.specs.declared.dump_item.DumpKind.{DumpKind}
@@ -7,15 +7,13 @@ use Rattle.rtp_ends.specs.declared.event.Event.{Event}
 use Rattle.rtp_ends.specs.declared.event.Arrival.{Arrival}
 use Rattle.rtp_ends.specs.Numbers.{Heard}
 use Rattle.rtp_ends.specs.Report.{arrival_report, certain_events}
-use Rattle.rtp_ends.specs.Receives.{GivesOut, HasArrived, ReceiverStands}
+use Rattle.rtp_ends.specs.Receives.{GivesOut, HasArrived}
 use Rattle.pack_jobs.specs.Refusal.{told}
-use Rattle.net_jobs.specs.declared.counts.Counts.{Counts}
 use Rattle.net_jobs.specs.declared.receive.ReceiveJob.{ReceiveJob}
 use Rattle.net_jobs.specs.declared.stream.Stream.{Stream}
-use Rattle.net_jobs.specs.declared.stream.Asked.{Asked}
 use Rattle.net_jobs.specs.Arrive.{RecordSort, arrives, record_sort}
 use Rattle.net_jobs.specs.Tell.{missing_of, missing_in}
-use Rattle.net_jobs.specs.Receive.{Reception, after, chosen_by, counted_arrival, behind, told_now, told_last}
+use Rattle.net_jobs.specs.Receive.{Reception, after, chosen_by, counted_arrival, behind}
 use Rattle.net_jobs.proofs.MissingLemmas.{missing_most}
 use Rattle.net_jobs.specs.ReceiveStands.{ReceiveStands, TookRecord, HasClosed}
 

@@ -1,5 +1,5 @@
 -- Texts of events, one after the other, and of many lost records.
-use Rattle.std.proofs.Common.{◌≡◌, ℕ, zero, suc, ◌+◌, ◌*◌, ◌-◌, ◌%◌, ◌<◌, ◌≤◌, min, ◌^◌, List, [], ◌∷◌, ◌++◌, Option, Result, length, take, drop, get_or, replicate, sym, ap, ◌∙◌, subst, append-nil, append_assoc, refl, arith}
+use Rattle.std.proofs.Common.{◌≡◌, ℕ, zero, suc, ◌+◌, ◌*◌, ◌-◌, ◌%◌, ◌<◌, ◌≤◌, ◌^◌, List, [], ◌++◌, Option, Result, length, take, drop, get_or, replicate, sym, ap, ◌∙◌, subst, append-nil, append_assoc, refl, arith}
 use Rattle.std.specs.Io.KnownBytes.{Appends}
 use Rattle.std.proofs.KnownBytes.{Appends-trans}
 use Rattle.std.proofs.lemmas.List.{take-replicate, drop_more, drop_all}

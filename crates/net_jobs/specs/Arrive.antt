@@ -1,6 +1,6 @@
 -- What a record of a capture is to a receiver of one stream: an arrival, or nothing that it takes. The choice of the stream
 -- and the order of the tests are this project's.
-use Rattle.std.specs.Prelude.{ℕ, Bool, true, false, ◌&&◌, ◌==◌, if◌then◌else◌, is_some, List, Option, None, Some}
+use Rattle.std.specs.Prelude.{ℕ, Bool, true, ◌&&◌, ◌==◌, if◌then◌else◌, is_some, List, Option, None, Some}
 use Rattle.opus_feed.specs.declared.framing.Framing.TheVariants.{Whole}
 use Rattle.pack_records.specs.Lent.{lent_value}
 use Rattle.rec_store.specs.declared.dump_item.DumpKind.{DumpKind}

@@ -10,3 +10,4 @@ pub mod Receive
 pub mod ReceiveStands
 pub mod CaptureRefusal
 pub mod Sorts
+pub mod Received

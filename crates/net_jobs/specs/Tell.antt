@@ -1,5 +1,5 @@
 -- What is written of a receiver's events: records of an `opus_demo` store, or lines.
-use Rattle.std.specs.Prelude.{ℕ, ℤ, zero, suc, ◌+◌, List, [], ◌∷◌, ◌++◌, length, codes, decimal, drop}
+use Rattle.std.specs.Prelude.{ℕ, ℤ, zero, suc, List, [], ◌∷◌, ◌++◌, length, codes, decimal}
 use Rattle.std.specs.List.{flat_map, sum_by}
 use Rattle.std.specs.Fmt.{signed_decimal}
 use Rattle.rec_store.specs.DemoStore.{demo_record}

@@ -1,5 +1,5 @@
 //! Laws on the jobs over RTP: each is the contract of a function that does nothing.
-ghost use Rattle.std.specs.Prelude.{◌≡◌, ◌*◌, ◌^◌, ◌<◌, ◌≤◌, ℕ, List, map, Option, length};
+ghost use Rattle.std.specs.Prelude.{◌≡◌, ◌+◌, ◌*◌, ◌^◌, ◌<◌, ◌≤◌, ℕ, List, [], ◌∷◌, ◌++◌, map, Option, length};
 ghost use Rattle.std.specs.List.{AllByRecursion};
 ghost use Rattle.job_loop.specs.Shown.{Shown};
 ghost use Rattle.job_loop.specs.Meaning.{going, broke, end_of, outcome};
@@ -22,6 +22,15 @@ ghost use Rattle.pack_jobs.specs.Written.{AreGood, FirstBad, IsUncut};
 ghost use Rattle.net_jobs.specs.Capture.{captured_records, capture_of};
 ghost use Rattle.net_jobs.specs.Given.{given_all, HoldOneByOne, AreSent};
 ghost use Rattle.net_jobs.specs.Send.{send, most_records};
+ghost use Rattle.rec_store.specs.declared.stop.StoreFault.{StoreFault};
+ghost use Rattle.dump_records.specs.declared.item.Item.{Item as Recorded};
+ghost use Rattle.dump_records.specs.declared.item.Found.TheVariants.{Bad};
+ghost use Rattle.rtp_ends.specs.Report.{arrival_report};
+ghost use Rattle.net_jobs.specs.declared.stream.Asked.{Asked};
+ghost use Rattle.net_jobs.specs.declared.events.Telling.{Telling};
+ghost use Rattle.net_jobs.specs.Receive as refused;
+ghost use Rattle.net_jobs.specs.Receive.{receive, IsSum};
+ghost use Rattle.net_jobs.specs.Received.{AreRecords, received, report_text, packets_in};
 
 /// What send writes for records is the capture of what the sender was given: of all records, or of those before the first
 /// bad one, or before the cut.
@@ -55,4 +64,30 @@ pub fn a_capture_has_the_packets_sent()
         → map packet_of_record (captured_records first records) ≡ packets_sent first records }
     ensures fits { (first : RtpFields) (records : List (Option PacketValue)) → AreSent records
         → AllByRecursion IsDumpRecord (captured_records first records) }
+{}
+
+/// What recv and replay write for records is the text of the report of all that arrived: of all records, or of those before
+/// the capture goes wrong, or is cut.
+pub fn what_arrives_is_told_whole()
+    ensures closed { (telling : Telling) (asked : Asked) (rs : List (Shown Recorded)) → AreRecords rs
+        → length rs ≤ most_records → outcome (receive telling asked) rs ends.Closed
+        ≡ going (report_text telling (received asked rs)) tt }
+    ensures cut { (telling : Telling) (asked : Asked) (rs : List (Shown Recorded)) (fault : StoreFault) → AreRecords rs
+        → length rs ≤ most_records → outcome (receive telling asked) rs (ends.Cut fault)
+        ≡ broke (report_text telling (received asked rs)) (refused.refusal_of (received asked rs) fault) }
+    ensures refused { (telling : Telling) (asked : Asked) (rs : List (Shown Recorded)) (r : Shown Recorded)
+        (fault : StoreFault) (end : InputEnd StoreFault) → AreRecords rs → length rs ≤ most_records
+        → r.item.found ≡ Bad fault → outcome (receive telling asked) (rs ++ r ∷ []) end
+        ≡ broke (report_text telling (received asked rs)) (refused.refusal_of (received asked rs) fault) }
+{}
+
+/// Each record is counted once, packets are those of the report, and the other arrivals are repeats.
+pub fn each_record_is_counted_once()
+    ensures records { (asked : Asked) (rs : List (Shown Recorded)) → AreRecords rs
+        → (received asked rs).counts.records ≡ length rs }
+    ensures sum { (asked : Asked) (rs : List (Shown Recorded)) → IsSum (received asked rs).counts }
+    ensures packets { (asked : Asked) (rs : List (Shown Recorded)) → (received asked rs).counts.packets
+        ≡ packets_in (arrival_report (received asked rs).heard) }
+    ensures repeats { (asked : Asked) (rs : List (Shown Recorded)) → (received asked rs).counts.repeats
+        + (received asked rs).counts.packets ≡ length (received asked rs).heard }
 {}

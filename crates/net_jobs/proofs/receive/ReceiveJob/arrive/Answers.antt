@@ -1,4 +1,4 @@
-use Rattle.std.proofs.Common.{[], List, Some, ℕ, ◌+◌, ◌∙◌, ap, subst}
+use Rattle.std.proofs.Common.{List, Some, ◌+◌, ◌∙◌, ap, subst}
 use Rattle.std.specs.Option.{unwrap_or}
 use Rattle.rtp_ends.specs.declared.event.Event.{Event}
 use Rattle.rtp_ends.specs.Receives.{HasArrived}
