@@ -65,8 +65,7 @@ arrival_counted k x c true has is are =
     let before = report_packets k.heard in
     let size = length-append k.heard (x ∷ []) in
     let packets = ap (λ (c : Counts). c.packets) is in
-    let repeats = ap (λ (c : Counts). c.repeats) is in
-    (
+    let repeats = ap (λ (c : Counts). c.repeats) is in (
       packets ∙ are.packets ∙ before ∙ sym now,
       rw is (omega (arith, are.sum)),
       omega (arith, packets, repeats, size, are.arrivals),
@@ -79,8 +78,7 @@ arrival_counted k x c false free is are =
     let before = report_packets k.heard in
     let size = length-append k.heard (x ∷ []) in
     let packets = ap (λ (c : Counts). c.packets) is in
-    let repeats = ap (λ (c : Counts). c.repeats) is in
-    (
+    let repeats = ap (λ (c : Counts). c.repeats) is in (
       omega (arith, packets, are.packets, before, now, more),
       rw is (omega (arith, are.sum)),
       omega (arith, packets, repeats, size, are.arrivals),

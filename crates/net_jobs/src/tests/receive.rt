@@ -1,10 +1,15 @@
 //! recv and replay over small captures: the same rows for both jobs, and each read failing in turn.
+ghost use Rattle.net_jobs.specs.NetEnds.{IsNetJob};
+
 use super::LIMIT;
-use crate::net_job;
+use crate::{Telling, net_job};
 use opus_io::{MemorySink, MemorySource};
 use opus_words::{Ending, Job, JobKind};
 use std::alloc::Global;
 use std::test::Fail;
+
+// The sizes of the pieces in which a capture comes.
+const STEPS: [usize; 3] = [1, 3, 4096];
 
 // A capture is a line and a head of 43 bytes, and then records.
 const OPENING: &[u8] = b"#!rtpplay1.0 10.0.0.5/5004\n\0\0\0\0\0\0\0\0\x0A\0\0\x05\x13\x8C\0\0";
@@ -30,6 +35,8 @@ const STREAM_STORE: &[u8] =
     b"\0\0\0\x04\0\0\0\0\xFC\x01\x02\x03\0\0\0\x02\0\0\0\0\xFC\x06\0\0\0\x03\0\0\0\0\xFC\x04\x05\0\0\0\0\0\0\0\0\0\0\0\x02\0\0\0\0\xFC\x08";
 
 const ALL_OTHER: &[u8] = b"records 7 rtcp 1 cut 1 bad 0 other 5 repeats 0 packets 0 missing 0\n";
+
+const NO_RECORDS: &[u8] = b"records 0 rtcp 0 cut 0 bad 0 other 0 repeats 0 packets 0 missing 0\n";
 
 // Sequence numbers 5, 4 and 65,535.
 const BELOW: &[&[u8]] = &[
@@ -70,17 +77,22 @@ fn capture(alloc: Global, records: &[&[u8]], size: usize) -> Result<Vec<u8>, Fai
     Ok(bytes)
 }
 
-// A job over captures.
-fn job(kind: JobKind, pt: Option<u8>, ssrc: Option<u32>) -> Job {
+// A job over captures, with a payload type and a source if they are asked for.
+fn job(telling: Telling, pt: Option<u8>, ssrc: Option<u32>) -> Job
+    ensures { IsNetJob result }
+{
     Job {
-        kind,
+        kind: match telling {
+            Telling::Store => JobKind::Recv,
+            Telling::Lines => JobKind::Replay,
+        },
         form: None,
         streams: None,
         stream: None,
         group: None,
         frames: None,
         size: None,
-        pt,
+        pt: pt.map(|pt| pt % 128),
         seq: None,
         stamp: None,
         ssrc,
@@ -153,7 +165,7 @@ const ROWS: [Row; 11] = [
         None,
         None,
         Some((0, 26, "store cut")),
-        b"records 0 rtcp 0 cut 0 bad 0 other 0 repeats 0 packets 0 missing 0\n",
+        NO_RECORDS,
         b"",
     ),
     (
@@ -202,7 +214,9 @@ fn answers(
     step: usize,
     fault: Fault,
     text: &[u8],
-) -> Result<bool, Fail> {
+) -> Result<bool, Fail>
+    requires { IsNetJob job.now }
+{
     let mut source = MemorySource::new(alloc, input, step.max(1), &[])?;
     let mut out = MemorySink::new(alloc, 4096, &[])?;
     let ending = net_job(alloc, job, LIMIT, &mut source, &mut out);
@@ -211,9 +225,8 @@ fn answers(
 
 fn has_row(alloc: Global, row: &Row, step: usize) -> Result<bool, Fail> {
     let (records, size, pt, ssrc, fault, lines, store) = *row;
-    let (pt, ssrc) = (pt.filter(|pt| *pt < 128), ssrc);
     let input = capture(alloc, records, size)?;
-    let (replay, recv) = (job(JobKind::Replay, pt, ssrc), job(JobKind::Recv, pt, ssrc));
+    let (replay, recv) = (job(Telling::Lines, pt, ssrc), job(Telling::Store, pt, ssrc));
     Ok(
         answers(alloc, &replay, &input, step, fault, lines)?
             && answers(alloc, &recv, &input, step, fault, store)?,
@@ -223,9 +236,83 @@ fn has_row(alloc: Global, row: &Row, step: usize) -> Result<bool, Fail> {
 #[test]
 fn tells_what_arrived(rt: HostRuntime) -> Result<(), Fail> {
     for row in &ROWS {
-        for step in [1, 3, 4096] {
+        for step in STEPS {
             assert!(rt; has_row(rt.alloc(), row, step)?);
         }
+    }
+    Ok(())
+}
+
+#[test]
+fn refuses_another_first_line(rt: HostRuntime) -> Result<(), Fail> {
+    let (replay, recv) = (
+        job(Telling::Lines, None, None),
+        job(Telling::Store, None, None),
+    );
+    let fault = Some((0, 2, "dump line"));
+    let mut input = capture(rt.alloc(), STREAM, 206)?;
+    if let Some(byte) = input.get_mut(2) {
+        *byte = 0x41;
+    }
+    for step in STEPS {
+        assert!(rt; answers(rt.alloc(), &replay, &input, step, fault, NO_RECORDS)?);
+        assert!(rt; answers(rt.alloc(), &recv, &input, step, fault, b"")?);
+    }
+    Ok(())
+}
+
+// How many bytes recv writes for FAR, and whether those of the lost records are zeros.
+fn stores_far(alloc: Global, step: usize) -> Result<bool, Fail> {
+    let input = capture(alloc, FAR, 1000)?;
+    let mut source = MemorySource::new(alloc, &input, step.max(1), &[])?;
+    let mut out = MemorySink::new(alloc, 4096, &[])?;
+    let recv = job(Telling::Store, None, None);
+    let ending = net_job(alloc, &recv, LIMIT, &mut source, &mut out);
+    let zeros = out.contents().iter().filter(|byte| **byte == 0).count();
+    Ok(ending == Ending::Ok && out.contents().len() == 262_156 && zeros == 262_150)
+}
+
+#[test]
+fn a_gap_is_that_many_lost_records(rt: HostRuntime) -> Result<(), Fail> {
+    for step in STEPS {
+        assert!(rt; stores_far(rt.alloc(), step)?);
+    }
+    Ok(())
+}
+
+// What replay ends in and writes for FAR and one more record, up to `limit` bytes. The read of that number fails.
+fn replays_far(alloc: Global, limit: u64, fails: &[u64]) -> Result<(Ending, Vec<u8>), Fail> {
+    let mut input = capture(alloc, FAR, 1000)?;
+    input.extend_from_slice(FIRST)?;
+    let mut source = MemorySource::new(alloc, &input, 1, fails)?;
+    let mut out = MemorySink::new(alloc, 4096, &[])?;
+    let replay = job(Telling::Lines, None, None);
+    let ending = net_job(alloc, &replay, limit.clamp(1, LIMIT), &mut source, &mut out);
+    Ok((ending, Vec::from_slice(alloc, out.contents())?))
+}
+
+// FAR has 87 bytes. The event that it makes certain stands, and nothing else.
+#[test]
+fn what_is_certain_stands(rt: HostRuntime) -> Result<(), Fail> {
+    for taken in 0..111 {
+        let text: &[u8] = if taken < 87 {
+            b""
+        } else {
+            b"packet 0 stamp 9 bytes 2\n"
+        };
+        let (ending, written) = replays_far(rt.alloc(), LIMIT, &[taken + 1])?;
+        assert_eq!(rt; ending, Ending::ReadFault);
+        assert!(rt; written.as_slice() == text);
+    }
+    for limit in 1..111 {
+        let text: &[u8] = if limit < 87 {
+            b""
+        } else {
+            b"packet 0 stamp 9 bytes 2\n"
+        };
+        let (ending, written) = replays_far(rt.alloc(), limit, &[])?;
+        assert_eq!(rt; ending, Ending::InputLimit);
+        assert!(rt; written.as_slice() == text);
     }
     Ok(())
 }
