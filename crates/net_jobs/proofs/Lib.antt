@@ -11,3 +11,4 @@ pub mod MissingLemmas
 mod CaptureFacts
 pub mod ReportLemmas
 pub mod CountLemmas
+pub mod AgainLemmas

@@ -11,3 +11,4 @@ pub mod ReceiveStands
 pub mod CaptureRefusal
 pub mod Sorts
 pub mod Received
+pub mod Again

@@ -29,7 +29,10 @@ ghost use Rattle.rtp_ends.specs.Report.{arrival_report};
 ghost use Rattle.net_jobs.specs.declared.stream.Asked.{Asked};
 ghost use Rattle.net_jobs.specs.declared.events.Telling.{Telling};
 ghost use Rattle.net_jobs.specs.Receive as refused;
-ghost use Rattle.net_jobs.specs.Receive.{receive, IsSum};
+ghost use Rattle.dump_records.specs.Capture.{DumpEnds};
+ghost use Rattle.rtp_packet.specs.RtpRead.{AreFields};
+ghost use Rattle.net_jobs.specs.Again.{any_stream, store_again, BeginsAndEnds};
+ghost use Rattle.net_jobs.specs.Receive.{receive, recv, IsSum};
 ghost use Rattle.net_jobs.specs.Received.{AreRecords, received, report_text, packets_in};
 
 /// What send writes for records is the capture of what the sender was given: of all records, or of those before the first
@@ -90,4 +93,14 @@ pub fn each_record_is_counted_once()
         ≡ packets_in (arrival_report (received asked rs).heard) }
     ensures repeats { (asked : Asked) (rs : List (Shown Recorded)) → (received asked rs).counts.repeats
         + (received asked rs).counts.packets ≡ length (received asked rs).heard }
+{}
+
+/// A store of packets that is sent is received again: recv, over the capture that send makes of packets and losses, writes
+/// each packet in its canonical form and as many lost records, all with range 0. The first and the last are packets, or there
+/// are none, and at most 32,767 lost ones stand one after the other.
+pub fn what_is_sent_is_received_again()
+    ensures store { (first : RtpFields) (packets : List (Option PacketValue)) (rs : List (Shown Recorded))
+        (cut : Option StoreFault) → AreFields first → AreSent packets → BeginsAndEnds packets
+        → length packets ≤ most_records → DumpEnds (capture_of first packets) rs cut
+        → outcome (recv any_stream) rs (end_of cut) ≡ going (store_again packets) tt }
 {}
