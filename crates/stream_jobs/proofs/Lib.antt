@@ -1,2 +1,2 @@
 pub mod JoinLemmas
-mod StandardFacts
+mod JoinFacts

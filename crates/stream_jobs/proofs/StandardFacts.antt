@@ -1,1 +1,0 @@
--- The job join, computed on small records.
