@@ -3,7 +3,7 @@ use Rattle.std.proofs.Common.{◌≡◌, ℕ, ◌+◌, [], ◌∷◌, ◌++◌, 
 use Rattle.std.proofs.lemmas.Fmt.{decimal_digit}
 use Rattle.job_loop.specs.Shown.{Shown}
 use Rattle.job_loop.specs.Meaning.{going, broke, outcome}
-use Rattle.job_loop.specs.declared.input_end.InputEnd.TheVariants.{Closed, Cut, Past}
+use Rattle.job_loop.specs.declared.input_end.InputEnd.TheVariants.{Closed, Cut}
 use Rattle.opus_toc.specs.Configuration.{samples_of, row_of}
 use Rattle.opus_packet.specs.declared.fault.Rule.TheVariants.{R3, R5}
 use Rattle.opus_packet.specs.Canonical.{canonical, canonical_self_delimited}

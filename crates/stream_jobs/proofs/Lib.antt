@@ -1,2 +1,4 @@
 pub mod JoinLemmas
+pub mod JoinEnds
+pub mod GroupsLemmas
 mod JoinFacts

@@ -4,13 +4,11 @@ ghost use Rattle.std.specs.Option.{option_map};
 ghost use Rattle.std.specs.Io.KnownBytes.{Appends};
 ghost use Rattle.opus_io.specs.Sink.{SinkCause, Onward};
 ghost use Rattle.opus_packet.specs.Value.{PacketValue};
-ghost use Rattle.opus_feed.specs.declared.padding.Padding.TheVariants.{Drop};
-ghost use Rattle.job_ends.specs.Ends.{seen_as, MeaningEnds};
+ghost use Rattle.job_ends.specs.Ends.{seen_as};
 ghost use Rattle.job_loop.specs.Telling.{Front};
-ghost use Rattle.pack_records.specs.Demo.{DemoSettles, DemoEnds};
-ghost use Rattle.pack_jobs.specs.PackEnds.{place_of};
-ghost use Rattle.stream_jobs.specs.Refusal.{refusal_of, Tells};
+ghost use Rattle.stream_jobs.specs.Refusal.{refusal_of};
 ghost use Rattle.stream_jobs.specs.Join.{Part, JoinKept, join, part_of, held_in, differs_in, full_text, next_group};
+ghost use Rattle.stream_jobs.specs.JoinEnds.{JoinEnds};
 ghost use Rattle.stream_jobs.specs.JoinParts.{form_at, samples_in};
 
 use crate::refusal::{StreamRefusal, StreamWhy};
@@ -268,7 +266,7 @@ pub fn join_job<S: Source, O: Sink>(
     requires streams { 1 ≤ streams }
     requires some { 1 ≤ limit }
     requires most { limit ≤ 2 ^ 40 }
-    ensures { MeaningEnds Tells place_of (join streams) (DemoSettles Drop) (DemoEnds Drop) limit
+    ensures { JoinEnds streams limit
         (seen_as (S.left source.old) (S.faults source.old) (O.contents out.old) (O.faults out.old) (O.refusals out.old))
         (seen_as (S.left source.new) (S.faults source.new) (O.contents out.new) (O.faults out.new) (O.refusals out.new))
         (source.new ≡ source.old) result }

@@ -2,6 +2,7 @@
 #![tactic(auto)]
 
 mod join;
+pub mod join_laws;
 #[cfg(test)]
 mod join_tests;
 mod refusal;

@@ -1,21 +1,15 @@
 use Rattle.std.proofs.Common.{◌≡◌, refl}
-use Rattle.opus_feed.specs.declared.padding.Padding.TheVariants.{Drop}
-use Rattle.opus_words.specs.declared.form.Form.TheVariants.{Demo}
 use Rattle.job_ends.specs.Ends.{seen_as}
-use Rattle.job_ends.proofs.EndsLemmas.{unstarted_ends}
-use Rattle.pack_records.specs.Demo.{DemoSettles, DemoEnds}
-use Rattle.pack_jobs.specs.PackEnds.{place_of}
-use Rattle.pack_jobs.proofs.PackLemmas.{none_settled}
-use Rattle.stream_jobs.specs.Refusal.{Tells}
 use Rattle.stream_jobs.specs.Join.{join}
+use Rattle.stream_jobs.proofs.JoinEnds.{unstarted_join}
 use Rattle.stream_jobs.proofs.join.join_job.Goals as goal
 
 pub returns-in-Err : goal.returns-in-Err
 returns-in-Err g c =
-    unstarted_ends Tells place_of (join c.args.streams) (DemoSettles Drop) (DemoEnds Drop) c.args.limit
+    unstarted_join c.args.streams c.args.limit
     (seen_as (g.S.Source.left c.args.source.now) (g.S.Source.faults c.args.source.now)
     (g.O.Sink.contents c.args.out.now) (g.O.Sink.faults c.args.out.now)
-    (g.O.Sink.refusals c.args.out.now)) (c.args.source.now ≡ c.args.source.now) refl (none_settled Demo Drop)
+    (g.O.Sink.refusals c.args.out.now)) (c.args.source.now ≡ c.args.source.now) refl
 
 pub returns-in-Ok : goal.returns-in-Ok
 returns-in-Ok g c =
