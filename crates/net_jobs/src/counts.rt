@@ -1,5 +1,6 @@
 //! How many records of a capture were taken, and the line that tells it.
-ghost use Rattle.std.specs.Prelude.{◌≡◌, ◌+◌, ◌≤◌, ◌<◌, ◌^◌, ◌++◌, length};
+ghost use Rattle.std.specs.Prelude.{◌≡◌, ◌+◌, ◌≤◌, ◌<◌, ◌++◌, length};
+ghost use Rattle.net_jobs.specs.Receive.{most_records};
 ghost use Rattle.arrayvec.specs.ArrayString.{array_string_len};
 ghost use Rattle.net_jobs.specs.Receive.{no_counts, IsSum, counted_arrival};
 ghost use Rattle.net_jobs.specs.Tell.{named, counts_line};
@@ -46,7 +47,7 @@ impl Counts {
     /// Counts a packet of RTCP.
     pub(crate) fn add_rtcp(&mut self)
         requires sum { IsSum self.old }
-        requires most { self.old.records < 2 ^ 40 }
+        requires most { self.old.records < most_records }
         ensures { self.new ≡ record self.old { records = self.old.records + 1; rtcp = self.old.rtcp + 1 } }
     {
         self.records += 1;
@@ -56,7 +57,7 @@ impl Counts {
     /// Counts a packet that was cut.
     pub(crate) fn add_cut(&mut self)
         requires sum { IsSum self.old }
-        requires most { self.old.records < 2 ^ 40 }
+        requires most { self.old.records < most_records }
         ensures { self.new ≡ record self.old { records = self.old.records + 1; cut = self.old.cut + 1 } }
     {
         self.records += 1;
@@ -66,7 +67,7 @@ impl Counts {
     /// Counts a record that holds no packet.
     pub(crate) fn add_bad(&mut self)
         requires sum { IsSum self.old }
-        requires most { self.old.records < 2 ^ 40 }
+        requires most { self.old.records < most_records }
         ensures { self.new ≡ record self.old { records = self.old.records + 1; bad = self.old.bad + 1 } }
     {
         self.records += 1;
@@ -76,7 +77,7 @@ impl Counts {
     /// Counts a packet of another stream.
     pub(crate) fn add_other(&mut self)
         requires sum { IsSum self.old }
-        requires most { self.old.records < 2 ^ 40 }
+        requires most { self.old.records < most_records }
         ensures { self.new ≡ record self.old { records = self.old.records + 1; other = self.old.other + 1 } }
     {
         self.records += 1;
@@ -86,7 +87,7 @@ impl Counts {
     /// Counts a packet of the stream, by whether its number had arrived before.
     pub(crate) fn add_arrival(&mut self, answer: Arrival)
         requires sum { IsSum self.old }
-        requires most { self.old.records < 2 ^ 40 }
+        requires most { self.old.records < most_records }
         ensures is { self.new ≡ counted_arrival self.old answer }
         ensures sum { IsSum self.new }
         ensures records { self.new.records ≡ self.old.records + 1 }

@@ -1,5 +1,6 @@
 //! The jobs over RTP, by their kinds.
 ghost use Rattle.std.specs.Prelude.{◌≡◌, ◌<◌, ◌≤◌, ◌^◌, [], IfSome};
+ghost use Rattle.opus_io.specs.Reader.{max_input};
 ghost use Rattle.opus_feed.specs.declared.padding.Padding.TheVariants.{Drop};
 ghost use Rattle.rtp_ends.specs.Sends.{SenderStands};
 ghost use Rattle.pack_records.specs.Demo.{DemoSettles, DemoEnds};
@@ -34,7 +35,7 @@ pub fn net_job<S: Source, O: Sink>(
     out: &mut O,
 ) -> Ending
     requires some { 1 ≤ limit }
-    requires most { limit ≤ 2 ^ 40 }
+    requires most { limit ≤ max_input }
     requires job { IsNetJob job.now }
     ensures { NetEnds job.now limit
         (seen_as (S.left source.old) (S.faults source.old) (O.contents out.old) (O.faults out.old) (O.refusals out.old))
@@ -82,7 +83,7 @@ fn run_send<S: Source, O: Sink>(
     out: &mut O,
 ) -> Ending
     requires some { 1 ≤ limit }
-    requires most { limit ≤ 2 ^ 40 }
+    requires most { limit ≤ max_input }
     requires stands { SenderStands sender [] }
     ensures { MeaningEnds (send sender.first) (DemoSettles Drop) (DemoEnds Drop) limit
         (seen_as (S.left source.old) (S.faults source.old) (O.contents out.old) (O.faults out.old) (O.refusals out.old))
@@ -108,7 +109,7 @@ fn run_receive<S: Source, O: Sink>(
     out: &mut O,
 ) -> Ending
     requires some { 1 ≤ limit }
-    requires most { limit ≤ 2 ^ 40 }
+    requires most { limit ≤ max_input }
     ensures { ReceiveEnds (receive telling asked) limit
         (seen_as (S.left source.old) (S.faults source.old) (O.contents out.old) (O.faults out.old) (O.refusals out.old))
         (seen_as (S.left source.new) (S.faults source.new) (O.contents out.new) (O.faults out.new) (O.refusals out.new))

@@ -1,5 +1,6 @@
 //! The jobs recv and replay: what arrives of one stream of a capture, told as soon as it is certain.
-ghost use Rattle.std.specs.Prelude.{◌≡◌, ◌+◌, ◌≤◌, ◌<◌, ◌^◌, ◌++◌, [], IfOk, OnOk, OnErr, IfErr};
+ghost use Rattle.std.specs.Prelude.{◌≡◌, ◌+◌, ◌≤◌, ◌<◌, ◌++◌, [], IfOk, OnOk, OnErr, IfErr};
+ghost use Rattle.net_jobs.specs.Receive.{most_records};
 ghost use Rattle.std.specs.Io.KnownBytes.{Appends};
 ghost use Rattle.opus_io.specs.Sink.{SinkCause, Onward};
 ghost use Rattle.job_loop.specs.Telling.{Front, Goes, Stops};
@@ -40,7 +41,7 @@ pub struct ReceiveJob {
     // What is told of the record that was taken last.
     events: Vec<Event>,
     ghost sum: { IsSum counts },
-    ghost most: { counts.records ≤ 2 ^ 40 },
+    ghost most: { counts.records ≤ most_records },
     ghost few: { receiver.arrivals ≤ counts.repeats + counts.packets },
 }
 
@@ -65,7 +66,7 @@ impl ReceiveJob {
 
     // Takes a record: what it makes certain are the events then.
     fn hear(&mut self, kind: DumpKind, bytes: &[u8]) -> Result<(), NoMemory>
-        requires { self.old.counts.records < 2 ^ 40 }
+        requires { self.old.counts.records < most_records }
         ensures telling { self.new.telling ≡ self.old.telling }
         ensures asked { self.new.asked ≡ self.old.asked }
         ensures took { OnOk result ((k : Reception) → ReceiveStands self.old k
@@ -84,7 +85,7 @@ impl ReceiveJob {
 
     // Hands a packet to the receiver. There are no events before.
     fn arrive(&mut self, packet: Rtp<'_>) -> Result<(), NoMemory>
-        requires most { self.old.counts.records < 2 ^ 40 }
+        requires most { self.old.counts.records < most_records }
         requires none { self.old.events.items ≡ [] }
         ensures telling { self.new.telling ≡ self.old.telling }
         ensures asked { self.new.asked ≡ self.old.asked }

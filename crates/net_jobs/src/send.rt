@@ -1,5 +1,6 @@
 //! The job send: what a sender sends, as a capture in the rtpdump layout.
-ghost use Rattle.std.specs.Prelude.{◌≡◌, ◌≤◌, ◌<◌, ◌^◌, [], List, length, vec_len, vec_capacity, Option, Some, None, IfOk};
+ghost use Rattle.std.specs.Prelude.{◌≡◌, ◌≤◌, ◌<◌, [], List, length, vec_len, vec_capacity, Option, Some, None, IfOk};
+ghost use Rattle.net_jobs.specs.Send.{most_records};
 ghost use Rattle.opus_packet.specs.Value.{PacketValue, duration_of};
 ghost use Rattle.opus_packet.specs.Canonical.{canonical};
 ghost use Rattle.rec_store.specs.Dump.{dump_head_bytes, dump_record_head};
@@ -80,7 +81,7 @@ impl SendJob {
     // Sends a packet that is lent in its canonical form.
     #[inline(always)]
     fn send_form(&mut self, form: &[u8], samples: u32)
-        requires sent { self.old.sender.sent < 2 ^ 40 }
+        requires sent { self.old.sender.sent < most_records }
         requires samples { samples ≤ 5760 }
         requires most { length form.now ≤ 61295 }
         ensures first { self.new.sender.first ≡ self.old.sender.first }
@@ -96,7 +97,7 @@ impl SendJob {
 
     // Sends a packet, written in its canonical form.
     fn send(&mut self, packet: &Packet<'_>)
-        requires { self.old.sender.sent < 2 ^ 40 }
+        requires { self.old.sender.sent < most_records }
         ensures first { self.new.sender.first ≡ self.old.sender.first }
         ensures sent { (records : List (Option PacketValue)) → SenderStands self.old.sender records
             → IsGiven self.old.sender.first records (Some packet.now.value) self.new }
@@ -107,7 +108,7 @@ impl SendJob {
 
     // Passes over a lost packet.
     fn skip(&mut self)
-        requires { self.old.sender.sent < 2 ^ 40 }
+        requires { self.old.sender.sent < most_records }
         ensures first { self.new.sender.first ≡ self.old.sender.first }
         ensures sent { (records : List (Option PacketValue)) → SenderStands self.old.sender records
             → IsGiven self.old.sender.first records None self.new }
@@ -120,7 +121,7 @@ impl SendJob {
     #[cold]
     #[inline(never)]
     fn send_again(&mut self, framing: Framing, bytes: &[u8])
-        requires { self.old.sender.sent < 2 ^ 40 }
+        requires { self.old.sender.sent < most_records }
         ensures first { self.new.sender.first ≡ self.old.sender.first }
         ensures sent { (records : List (Option PacketValue)) → SenderStands self.old.sender records
             → IsGiven self.old.sender.first records (lent_value framing bytes.now) self.new }
@@ -134,7 +135,7 @@ impl SendJob {
     // Gives the sender what a record holds, and makes the text of it.
     #[inline(always)]
     fn give(&mut self, found: Found, bytes: &[u8])
-        requires sent { self.old.sender.sent < 2 ^ 40 }
+        requires sent { self.old.sender.sent < most_records }
         requires fits { FoundFits found bytes.now }
         ensures first { self.new.sender.first ≡ self.old.sender.first }
         ensures sent { (records : List (Option PacketValue)) → SenderStands self.old.sender records

@@ -4,3 +4,12 @@ pub mod JoinParts
 pub mod JoinStands
 pub mod JoinEnds
 pub mod JoinGroups
+pub mod Bad
+pub mod Each
+pub mod StreamsIn
+pub mod Norm
+pub mod Apart
+pub mod Extract
+pub mod Check
+pub mod CheckStands
+pub mod StreamEnds

@@ -1,5 +1,6 @@
 //! The job join: each so many records of a store as one record with the multistream packet of their packets.
 ghost use Rattle.std.specs.Prelude.{◌≡◌, ◌+◌, ◌*◌, ◌^◌, ◌<◌, ◌≤◌, ◌++◌, ◌∷◌, List, [], true, false, length, vec_len, vec_capacity, if◌then◌else◌, bit_xor, Option, None, Some, Ok, Err, IfOk, IfErr, OnOk, OnErr};
+ghost use Rattle.opus_io.specs.Reader.{max_input};
 ghost use Rattle.std.specs.Option.{option_map};
 ghost use Rattle.std.specs.Io.KnownBytes.{Appends};
 ghost use Rattle.opus_io.specs.Sink.{SinkCause, Onward};
@@ -265,7 +266,7 @@ pub fn join_job<S: Source, O: Sink>(
 ) -> Ending
     requires streams { 1 ≤ streams }
     requires some { 1 ≤ limit }
-    requires most { limit ≤ 2 ^ 40 }
+    requires most { limit ≤ max_input }
     ensures { JoinEnds streams limit
         (seen_as (S.left source.old) (S.faults source.old) (O.contents out.old) (O.faults out.old) (O.refusals out.old))
         (seen_as (S.left source.new) (S.faults source.new) (O.contents out.new) (O.faults out.new) (O.refusals out.new))

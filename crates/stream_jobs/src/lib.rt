@@ -1,11 +1,23 @@
-//! The jobs over packets of several streams: what each makes of a record, and how the program's run of one ends.
+//! The jobs over multistream packets (RFC 7845, section 3): what each makes of a record, and how the program's run of
+//! one ends.
+//!
+//! A job knows no form's bytes and no reading; `job_loop` hands it each record as soon as its bytes decide it.
 #![tactic(auto)]
 
+mod apart;
+mod bad;
+mod check;
+mod each;
+mod extract;
 mod join;
 pub mod join_laws;
 #[cfg(test)]
 mod join_tests;
+mod norm;
 mod refusal;
+mod stream;
+mod stream_packets;
 
 pub use join::{Join, join_job};
 pub use refusal::{StreamRefusal, StreamWhy};
+pub use stream::stream_job;

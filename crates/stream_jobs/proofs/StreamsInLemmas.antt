@@ -1,0 +1,98 @@
+-- The packets that stand one after another in some bytes, and their values.
+use Rattle.std.proofs.Common.{◌≡◌, ℕ, zero, suc, ◌<◌, ◌≤◌, List, [], ◌∷◌, length, take, drop, Option, Some, None, IfSome, option_map, Result, Ok, Err, IfOk, refl, sym, ap, ◌∙◌, subst, take_all, arith}
+use Rattle.std.specs.Result.{IsOkAnd, result_ok}
+use Rattle.opus_packet.specs.declared.shape.Shape.{Shape}
+use Rattle.opus_packet.specs.Value.{PacketValue}
+use Rattle.opus_packet.specs.PacketGrammar.{IsPacket, Spells}
+use Rattle.opus_packet.specs.PacketPrefix.{AreBytes}
+use Rattle.opus_packet.specs.SelfGrammar.{IsSelfDelimited, BeginsWithSelf}
+use Rattle.opus_packet.proofs.BytesLemmas.{AreBytes-take}
+use Rattle.opus_self.proofs.SelfLemmas.{begins_only}
+use Rattle.opus_feed.specs.declared.framing.Framing.{Framing}
+use Rattle.opus_feed.specs.declared.framing.Framing.TheVariants.{Whole, SelfDelimited}
+use Rattle.pack_records.specs.Lent.{lent_value}
+use Rattle.pack_records.proofs.LentLemmas.{lent_value-spelled, lent_value-only, whole_told}
+use Rattle.stream_jobs.specs.StreamsIn.{framing_before, told_size, first_size, first_value, first_then, streams_in}
+
+-- framings
+
+pub framing-last : (behind : ℕ) → behind ≤ 0 → framing_before behind ≡ Whole
+framing-last zero none = refl
+framing-last (suc behind) none = absurd (omega (arith, none))
+
+pub framing-other : (behind : ℕ) → 0 < behind → framing_before behind ≡ SelfDelimited
+framing-other zero some = absurd (omega (arith, some))
+framing-other (suc behind) some = refl
+
+-- a self-delimited packet that stands first
+
+pub begins-size : (v : PacketValue) (s : Shape) (used : ℕ) (bytes : List ℕ) → BeginsWithSelf v s used bytes
+    → used ≡ first_size SelfDelimited bytes
+begins-size v s used bytes b =
+    let at = begins_only v s used bytes b in at.used_is ∙ sym (ap told_size at.read)
+
+pub begins-value : (v : PacketValue) (s : Shape) (used : ℕ) (bytes : List ℕ) → BeginsWithSelf v s used bytes
+    → Some v ≡ first_value SelfDelimited bytes
+unfolding first_value
+begins-value v s used bytes b =
+    sym (lent_value-spelled SelfDelimited v s b.spelled.0 (take used bytes) b.spelled.1)
+    ∙ ap (λ n. lent_value SelfDelimited (take n bytes)) (begins-size v s used bytes b)
+
+-- a front of the bytes that isn't longer than they are
+front : (n : ℕ) (bytes : List ℕ) → (used : ℕ) × (used ≤ length bytes) × (take n bytes ≡ take used bytes)
+front zero bytes = (0, omega arith, refl)
+front (suc n) [] = (0, omega arith, refl)
+front (suc n) (b ∷ bytes) =
+    let (used, within, is) = front n bytes in (suc used, omega (arith, within), ap (λ l. b ∷ l) is)
+
+none_first : (bytes : List ℕ) → AreBytes bytes
+    → ((v : PacketValue) (s : Shape) (used : ℕ) → BeginsWithSelf v s used bytes → ⊥)
+    → None ≡ first_value SelfDelimited bytes
+unfolding first_value
+none_first bytes are none = go (lent_value SelfDelimited own) refl
+  where
+    own : List ℕ
+    own = take (first_size SelfDelimited bytes) bytes
+
+    go : (o : Option PacketValue) → lent_value SelfDelimited own ≡ o → None ≡ o
+    go None is = refl
+    go (Some v) is =
+        let (s, tail, p) = lent_value-only SelfDelimited v own (AreBytes-take (first_size SelfDelimited bytes) bytes are) is in
+        let (used, within, same) = front (first_size SelfDelimited bytes) bytes in
+        absurd (none v s used record { within = within; spelled = (tail, subst (IsSelfDelimited v s tail) same p) })
+
+pub self_value : {R E : Type 0} → (value : R → PacketValue) (shape : R → Shape) (used : R → ℕ) (bytes : List ℕ)
+    → AreBytes bytes → (r : Result R E) → IfOk r (λ p. BeginsWithSelf (value p) (shape p) (used p) bytes)
+    → ((v : PacketValue) (s : Shape) (n : ℕ) → BeginsWithSelf v s n bytes
+    → IsOkAnd r (λ p. (value p ≡ v) × (shape p ≡ s) × (used p ≡ n)))
+    → option_map value (result_ok r) ≡ first_value SelfDelimited bytes
+self_value value shape used bytes are (Ok p) found only = begins-value (value p) (shape p) (used p) bytes found
+self_value value shape used bytes are (Err e) found only = none_first bytes are only
+
+pub self_used : {R E : Type 0} → (value : R → PacketValue) (shape : R → Shape) (used : R → ℕ) (bytes : List ℕ)
+    → (r : Result R E) → IfOk r (λ p. BeginsWithSelf (value p) (shape p) (used p) bytes)
+    → IfSome (result_ok r) (λ p. used p ≡ first_size SelfDelimited bytes)
+self_used value shape used bytes (Ok p) found = begins-size (value p) (shape p) (used p) bytes found
+self_used value shape used bytes (Err e) found = tt
+
+-- an undelimited packet
+
+pub whole-value : (bytes : List ℕ) → lent_value Whole bytes ≡ first_value Whole bytes
+unfolding first_value
+whole-value bytes = ap (lent_value Whole) (sym (take_all (length bytes) bytes (omega arith)))
+
+-- several
+
+pub streams-first : (left behind : ℕ) (bytes : List ℕ) (o : Option PacketValue) (v : PacketValue) (used : ℕ)
+    → left ≡ suc behind → o ≡ first_value (framing_before behind) bytes → o ≡ Some v
+    → used ≡ first_size (framing_before behind) bytes → streams_in left bytes ≡ v ∷ streams_in behind (drop used bytes)
+streams-first left behind bytes o v used left_is value is used_is =
+    ap (λ n. streams_in n bytes) left_is
+    ∙ ap (λ w. first_then w (streams_in behind (drop (first_size (framing_before behind) bytes) bytes))) (sym value ∙ is)
+    ∙ ap (λ n. v ∷ streams_in behind (drop n bytes)) (sym used_is)
+
+pub streams-none : (left behind : ℕ) (bytes : List ℕ) (o : Option PacketValue) → left ≡ suc behind
+    → o ≡ first_value (framing_before behind) bytes → o ≡ None → streams_in left bytes ≡ []
+streams-none left behind bytes o left_is value is =
+    ap (λ n. streams_in n bytes) left_is
+    ∙ ap (λ w. first_then w (streams_in behind (drop (first_size (framing_before behind) bytes) bytes))) (sym value ∙ is)

@@ -1,0 +1,214 @@
+//! The jobs over multistream packets, by their kinds and forms.
+ghost use Rattle.std.specs.Prelude.{◌≡◌, ◌≤◌, [], IfOk};
+ghost use Rattle.opus_io.specs.Reader.{max_input};
+ghost use Rattle.job_loop.specs.Shown.{Shown};
+ghost use Rattle.job_loop.specs.Meaning.{Meaning};
+ghost use Rattle.job_ends.specs.Ends.{seen_as};
+ghost use Rattle.stream_jobs.specs.StreamEnds.{IsStreamKind, IsStreamJob, StreamEnds, JobEnds, MeaningEnds, place_of, form_of, padding_of, streams_of, stream_of};
+
+use crate::apart::Apart;
+use crate::check::Check;
+use crate::each::Each;
+use crate::extract::Extract;
+use crate::norm::Norm;
+use crate::refusal::StreamRefusal;
+use job_ends::run_made;
+use job_loop::{Form as RecordForm, RecordJob};
+use opus_feed::Padding;
+use opus_io::{NoMemory, Sink, Source};
+use opus_words::{Ending, Form, Job, JobKind};
+use pack_records::Cut;
+use std::alloc::Global;
+use stream_records::{DemoStreams, RawStreams, StreamsItem};
+
+// The form of the input.
+fn form_of(job: &Job) -> Form
+    ensures { result ≡ form_of job.now }
+{
+    match job.kind {
+        JobKind::Apart => Form::Demo,
+        JobKind::Extract => Form::Demo,
+        _ => job.form.unwrap_or(Form::Raw),
+    }
+}
+
+// What becomes of padding bytes.
+fn padding_of(job: &Job) -> Padding
+    ensures { result ≡ padding_of job.now }
+{
+    job.padding.unwrap_or(Padding::Drop)
+}
+
+// How many streams a packet has.
+fn streams_of(job: &Job) -> u8
+    ensures is { result ≡ streams_of job.now }
+    ensures some { 1 ≤ result }
+{
+    job.streams.unwrap_or(1).max(1)
+}
+
+// The stream that is chosen.
+fn stream_of(job: &Job) -> u8
+    ensures { result ≡ stream_of job.now }
+{
+    job.stream.unwrap_or(0)
+}
+
+/// Does a job over multistream packets (RFC 7845, section 3): reads `source` up to `limit` bytes, from 1 to 2^40, and
+/// writes to `out`.
+///
+/// What the bytes read settle is written before the next read. All memory is taken before the first read.
+pub fn stream_job<S: Source, O: Sink>(
+    alloc: Global,
+    job: &Job,
+    limit: u64,
+    source: &mut S,
+    out: &mut O,
+) -> Ending
+    requires some { 1 ≤ limit }
+    requires most { limit ≤ max_input }
+    requires job { IsStreamJob job.now }
+    ensures { StreamEnds job.now limit
+        (seen_as (S.left source.old) (S.faults source.old) (O.contents out.old) (O.faults out.old) (O.refusals out.old))
+        (seen_as (S.left source.new) (S.faults source.new) (O.contents out.new) (O.faults out.new) (O.refusals out.new))
+        (source.new ≡ source.old) result }
+{
+    let streams = streams_of(job);
+    let padding = padding_of(job);
+    match form_of(job) {
+        Form::Raw => {
+            let records = RawStreams::new(alloc, streams, padding);
+            run_form(alloc, job, limit, records, source, out)
+        }
+        Form::Demo => {
+            let records = DemoStreams::new(alloc, streams, padding);
+            run_form(alloc, job, limit, records, source, out)
+        }
+        Form::SelfDelimited => unreachable!(),
+    }
+}
+
+// Does a job over records of a form, if there was memory for it.
+fn run_form<F, S, O>(
+    alloc: Global,
+    job: &Job,
+    limit: u64,
+    records: Result<F, NoMemory>,
+    source: &mut S,
+    out: &mut O,
+) -> Ending
+where
+    F: RecordForm<Record = StreamsItem, Cut = Cut> + Drop,
+    S: Source,
+    O: Sink,
+    requires some { 1 ≤ limit }
+    requires most { limit ≤ max_input }
+    requires kind { IsStreamKind job.now.kind }
+    requires stands { IfOk records (λ f. F.stands f [] []) }
+    requires place { F.place ≡ place_of }
+    requires form_spared { (layout : F.Layout) → F.lacks layout → ⊥ }
+    ensures { (layout : F.Layout) → IfOk records (λ f. F.layout f ≡ layout) → F.settles layout [] []
+        → JobEnds job.now (F.settles layout) (F.ends layout) limit
+        (seen_as (S.left source.old) (S.faults source.old) (O.contents out.old) (O.faults out.old) (O.refusals out.old))
+        (seen_as (S.left source.new) (S.faults source.new) (O.contents out.new) (O.faults out.new) (O.refusals out.new))
+        (source.new ≡ source.old) result }
+{
+    match records {
+        Ok(records) => run_kind(alloc, job, limit, records, source, out),
+        Err(NoMemory) => Ending::NoMemory,
+    }
+}
+
+// Does a job over records of a form, which was fed nothing yet: one line a job.
+fn run_kind<F, S, O>(
+    alloc: Global,
+    job: &Job,
+    limit: u64,
+    records: F,
+    source: &mut S,
+    out: &mut O,
+) -> Ending
+where
+    F: RecordForm<Record = StreamsItem, Cut = Cut> + Drop,
+    S: Source,
+    O: Sink,
+    requires some { 1 ≤ limit }
+    requires most { limit ≤ max_input }
+    requires kind { IsStreamKind job.now.kind }
+    requires stands { F.stands records [] [] }
+    requires place { F.place ≡ place_of }
+    requires form_spared { (layout : F.Layout) → F.lacks layout → ⊥ }
+    ensures { JobEnds job.now (F.settles (F.layout records)) (F.ends (F.layout records)) limit
+        (seen_as (S.left source.old) (S.faults source.old) (O.contents out.old) (O.faults out.old) (O.refusals out.old))
+        (seen_as (S.left source.new) (S.faults source.new) (O.contents out.new) (O.faults out.new) (O.refusals out.new))
+        (source.new ≡ source.old) result }
+{
+    let streams = streams_of(job);
+    match job.kind {
+        JobKind::Norm => {
+            let norm = Norm {
+                form: form_of(job),
+                streams,
+                padding: padding_of(job),
+            };
+            run_over(alloc, limit, records, Each::new(norm, streams), source, out)
+        }
+        JobKind::Check => run_over(alloc, limit, records, Check::new(streams), source, out),
+        JobKind::Apart => {
+            let apart = Apart { streams };
+            run_over(
+                alloc,
+                limit,
+                records,
+                Each::new(apart, streams),
+                source,
+                out,
+            )
+        }
+        JobKind::Extract => {
+            let extract = Extract {
+                streams,
+                stream: stream_of(job),
+            };
+            run_over(
+                alloc,
+                limit,
+                records,
+                Each::new(extract, streams),
+                source,
+                out,
+            )
+        }
+        _ => unreachable!(),
+    }
+}
+
+// Runs a job that takes no memory over records of multistream packets, which were fed nothing yet.
+fn run_over<F, J, S, O>(
+    alloc: Global,
+    limit: u64,
+    records: F,
+    job: J,
+    source: &mut S,
+    out: &mut O,
+) -> Ending
+where
+    F: RecordForm<Record = StreamsItem, Cut = Cut> + Drop,
+    J: RecordJob<StreamsItem, Cut, Refusal = StreamRefusal> + Drop,
+    S: Source,
+    O: Sink,
+    requires some { 1 ≤ limit }
+    requires most { limit ≤ max_input }
+    requires stands { F.stands records [] [] }
+    requires place { F.place ≡ place_of }
+    requires form_spared { (layout : F.Layout) → F.lacks layout → ⊥ }
+    requires start { J.stands job (J.meaning job).start }
+    requires spared { J.lacks job → ⊥ }
+    ensures { (m : Meaning (Shown StreamsItem) J.Kept Cut StreamRefusal) → J.meaning job ≡ m
+        → MeaningEnds m (F.settles (F.layout records)) (F.ends (F.layout records)) limit
+        (seen_as (S.left source.old) (S.faults source.old) (O.contents out.old) (O.faults out.old) (O.refusals out.old))
+        (seen_as (S.left source.new) (S.faults source.new) (O.contents out.new) (O.faults out.new) (O.refusals out.new))
+        (source.new ≡ source.old) result }
+{
+    run_made(alloc, limit, records, Ok(job), source, out)
+}
