@@ -42,6 +42,7 @@ use Rattle.net_jobs.specs.Receive.{Reception, begun, after, chosen_by, recv, mos
 use Rattle.net_jobs.specs.Received.{AreRecords, received_after, received}
 use Rattle.net_jobs.specs.Again.{any_stream, store_again, HasShortRuns, BeginsAndEnds}
 use Rattle.net_jobs.proofs.CaptureLemmas.{length-packet_bytes}
+use Rattle.net_jobs.proofs.FewLemmas.{length-shown}
 use Rattle.net_jobs.proofs.PacketsLemmas.{captured_behind-fits}
 use Rattle.net_jobs.proofs.TellLemmas.{lost_records-parts}
 use Rattle.net_jobs.proofs.ReportLemmas.{closed_whole}
@@ -281,10 +282,6 @@ heard_again at first before (Some v ∷ rs) k are sent own =
 all_records : (at : ℕ) (records : List DumpRecord) → AreRecords (shown_records at records)
 all_records at [] = tt
 all_records at (r ∷ rs) = (tt, all_records (at + (8 + length r.kept)) rs)
-
-length-shown : (at : ℕ) (records : List DumpRecord) → length (shown_records at records) ≡ length records
-length-shown at [] = refl
-length-shown at (r ∷ rs) = let rest = length-shown (at + (8 + length r.kept)) rs in omega (arith, rest)
 
 captured_few : (first : RtpFields) (before rs : List (Option PacketValue)) → length (captured_behind first before rs) ≤ length rs
 captured_few first before [] = omega arith

@@ -12,3 +12,4 @@ mod CaptureFacts
 pub mod ReportLemmas
 pub mod CountLemmas
 pub mod AgainLemmas
+pub mod FewLemmas

@@ -29,7 +29,7 @@ ghost use Rattle.rtp_ends.specs.Report.{arrival_report};
 ghost use Rattle.net_jobs.specs.declared.stream.Asked.{Asked};
 ghost use Rattle.net_jobs.specs.declared.events.Telling.{Telling};
 ghost use Rattle.net_jobs.specs.Receive as refused;
-ghost use Rattle.dump_records.specs.Capture.{DumpEnds};
+ghost use Rattle.dump_records.specs.Capture.{DumpSettles, DumpEnds};
 ghost use Rattle.rtp_packet.specs.RtpRead.{AreFields};
 ghost use Rattle.net_jobs.specs.Again.{any_stream, store_again, BeginsAndEnds};
 ghost use Rattle.net_jobs.specs.Receive.{receive, recv, IsSum};
@@ -70,7 +70,7 @@ pub fn a_capture_has_the_packets_sent()
 {}
 
 /// What recv and replay write for records is the text of the report of all that arrived: of all records, or of those before
-/// the capture goes wrong, or is cut.
+/// the capture goes wrong, or is cut. No input within the limit has more records than they take.
 pub fn what_arrives_is_told_whole()
     ensures closed { (telling : Telling) (asked : Asked) (rs : List (Shown Recorded)) → AreRecords rs
         → length rs ≤ most_records → outcome (receive telling asked) rs ends.Closed
@@ -82,6 +82,7 @@ pub fn what_arrives_is_told_whole()
         (fault : StoreFault) (end : InputEnd StoreFault) → AreRecords rs → length rs ≤ most_records
         → r.item.found ≡ Bad fault → outcome (receive telling asked) (rs ++ r ∷ []) end
         ≡ broke (report_text telling (received asked rs)) (refused.refusal_of (received asked rs) fault) }
+    ensures few { (h : List ℕ) (rs : List (Shown Recorded)) → DumpSettles h rs → 8 * length rs ≤ length h + 8 }
 {}
 
 /// Each record is counted once, packets are those of the report, and the other arrivals are repeats.

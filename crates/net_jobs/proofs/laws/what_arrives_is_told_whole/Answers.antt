@@ -1,3 +1,4 @@
+use Rattle.net_jobs.proofs.FewLemmas.{capture_few}
 use Rattle.net_jobs.proofs.ReportLemmas.{closed_whole, cut_whole, refused_whole}
 use Rattle.net_jobs.proofs.laws.what_arrives_is_told_whole.Goals as goal
 
@@ -9,3 +10,6 @@ returns-clause-cut c = cut_whole
 
 pub returns-clause-refused : goal.returns-clause-refused
 returns-clause-refused c = refused_whole
+
+pub returns-clause-few : goal.returns-clause-few
+returns-clause-few c = capture_few
