@@ -1,6 +1,7 @@
 pub mod JoinLemmas
 pub mod JoinEnds
 pub mod GroupsLemmas
+pub mod ShortLemmas
 mod JoinFacts
 pub mod SoFar
 pub mod StreamsInLemmas

@@ -1,4 +1,4 @@
-use Rattle.std.proofs.Common.{◌+◌, ◌≤◌, ◌++◌, true, false, option_map, OnOk, OnErr, subst, ap, ◌∙◌, arith, length, vec_len}
+use Rattle.std.proofs.Common.{◌+◌, ◌≤◌, ◌++◌, true, option_map, OnOk, OnErr, subst, ap, ◌∙◌, arith, length, vec_len}
 use Rattle.std.specs.Io.KnownBytes.{Appends}
 use Rattle.job_loop.specs.Telling.{Front}
 use Rattle.stream_jobs.specs.JoinParts.{form_at}
@@ -11,8 +11,8 @@ returns-then-self-clause-group g c group takes =
     pushed_open c.args.self.now _ c.args.self.now.streams group v c.args.range takes
     (omega (arith, c.if-self.true, c.note.ensures.streams, c.note.ensures.taken))
     (ap (λ n. n + 1) c.note.ensures.taken) c.note.ensures.range
-    (λ none. c.note.ensures.first none ∙ c.samples_of.ensures) c.note.ensures.stays
-    (c.push_form.ensures.items ∙ ap (λ b. b.items ++ form_at false v) c.note.ensures.bytes)
+    (λ none. rw c.samples_of.ensures at c.note.ensures.first none) c.note.ensures.stays
+    (rw c.note.ensures.bytes at c.push_form.ensures.items)
 
 pub returns-clause-ok : goal.returns-clause-ok
 returns-clause-ok g c group takes =
