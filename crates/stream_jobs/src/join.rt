@@ -183,12 +183,12 @@ fn push_form(packet: &Option<Packet<'_>>, last: bool, bytes: &mut Vec<u8>)
     let Some(packet) = packet else {
         return;
     };
-    // Known of every packet: no canonical form is longer.
-    let _ = canon_size(packet);
-    let _ = canon_self_size(packet);
+    // Known of every packet: no canonical form is longer than there is room for.
     if last {
+        let _ = canon_size(packet);
         write_canon(packet, bytes).unwrap();
     } else {
+        let _ = canon_self_size(packet);
         write_canon_self(packet, bytes).unwrap();
     }
 }
