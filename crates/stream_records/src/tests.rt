@@ -2,6 +2,7 @@
 
 mod large;
 mod raw;
+mod runs;
 mod stores;
 
 use crate::{StreamsFound, StreamsItem};
