@@ -49,7 +49,6 @@ usage_text kind.Job = codes "job"
 usage_text (kind.Option o) = codes "option --" ++ option_name o
 usage_text (kind.Value o) = codes "value --" ++ option_name o
 usage_text (kind.Missing o) = codes "missing --" ++ option_name o
-usage_text kind.NotBuilt = codes "not built"
 
 -- the note: nothing where all is well
 abbrev pub note_of : Finish → List ℕ

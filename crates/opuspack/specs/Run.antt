@@ -1,5 +1,5 @@
 -- What the whole program does with its words, its input and its output.
-use Rattle.std.specs.Prelude.{◌≡◌, ℕ, Result, Ok, Err, unwrap_or}
+use Rattle.std.specs.Prelude.{◌≡◌, ℕ, nat_lt, max, Bool, true, false, Option, Some, None, Result, Ok, Err, unwrap_or}
 use Rattle.opus_io.specs.Outside.{Outside}
 use Rattle.opus_words.specs.declared.job.Job.{Job}
 use Rattle.opus_words.specs.declared.kind.JobKind.{JobKind}
@@ -10,6 +10,8 @@ use Rattle.opus_words.specs.declared.fault.UsageKind.{UsageKind}
 use Rattle.pack_jobs.specs.PackEnds.{PackEnds}
 use Rattle.job_ends.specs.Ends.{MeaningEnds}
 use Rattle.net_jobs.specs.NetEnds.{NetEnds}
+use Rattle.stream_jobs.specs.StreamEnds.{StreamEnds}
+use Rattle.stream_jobs.specs.JoinEnds.{JoinEnds}
 use Rattle.text_jobs.specs.Lines.{place_of, LineSettles, LineEnds}
 use Rattle.text_jobs.specs.Sdp.{sdp, TellsSdp}
 use Rattle.opuspack.specs.HeadEnds.{HeadEnds}
@@ -26,6 +28,20 @@ seed_in job = unwrap_or job.seed 0
 abbrev pub count_in : Job → ℕ
 count_in job = unwrap_or job.count 0
 
+-- more streams than one
+abbrev pub is_several : Option ℕ → Bool
+is_several None = false
+is_several (Some n) = nat_lt 1 n
+
+-- the records of a group of join: one at least, also where the words name none
+abbrev pub streams_in : Job → ℕ
+streams_in job = max 1 (unwrap_or job.streams 1)
+
+-- a job over packets ended so, where each is a multistream packet or one of a single stream
+abbrev pub OverPackets : Bool → Job → ℕ → Outside → Outside → Type 0 → Ending → Type 0
+OverPackets true job = StreamEnds job
+OverPackets false job = PackEnds job
+
 -- How the job of a kind ended: one line a job that isn't over packets. Unread and Unwritten say that the source and the
 -- sink are as they were.
 abbrev pub KindEnds : JobKind → Job → ℕ → Outside → Outside → Type 0 → Type 0 → Ending → Type 0
@@ -39,7 +55,12 @@ KindEnds kinds.Make job limit before after Unread Unwritten ending =
     WritesOnly (made_store (seed_in job) (count_in job)) before after Unread Unwritten ending
 KindEnds kinds.Trial job limit before after Unread Unwritten ending =
     WritesOnly (trial_text (seed_in job) (count_in job)) before after Unread Unwritten ending
-KindEnds kind job limit before after Unread Unwritten ending = PackEnds job limit before after Unread ending
+KindEnds kinds.Apart job limit before after Unread Unwritten ending = StreamEnds job limit before after Unread ending
+KindEnds kinds.Extract job limit before after Unread Unwritten ending = StreamEnds job limit before after Unread ending
+KindEnds kinds.Join job limit before after Unread Unwritten ending =
+    JoinEnds (streams_in job) limit before after Unread ending
+KindEnds kind job limit before after Unread Unwritten ending =
+    OverPackets (is_several job.streams) job limit before after Unread ending
 
 -- Where the words stand for a job, it ended as the job's meaning says: these were the source and the sink, and these
 -- they are. Where the words stand for none, the answer is their usage kind, or want of memory, and both are as they were.

@@ -47,7 +47,6 @@ fn usage_line(kind: UsageKind) -> Line
         UsageKind::Option(option) => option_line("usage: option --", option),
         UsageKind::Value(option) => option_line("usage: value --", option),
         UsageKind::Missing(option) => option_line("usage: missing --", option),
-        UsageKind::NotBuilt => plain_line("usage: not built"),
     }
 }
 

@@ -5,7 +5,8 @@ ghost use Rattle.opus_words.specs.Words.{job_of_words};
 ghost use Rattle.job_ends.specs.Ends.{seen_as};
 ghost use Rattle.opuspack.specs.declared.finish.Finish.{Finish};
 ghost use Rattle.opuspack.specs.Finish.{status_of, note_of, Noted};
-ghost use Rattle.opuspack.specs.Run.{Meant, KindEnds, seed_in, count_in};
+ghost use Rattle.pack_jobs.specs.PackEnds.{IsPackKind};
+ghost use Rattle.opuspack.specs.Run.{Meant, KindEnds, OverPackets, is_several, streams_in, seed_in, count_in};
 
 use crate::finish::Finish;
 use crate::head::head_job;
@@ -17,6 +18,7 @@ use opus_io::{Sink, Source};
 use opus_words::{Ending, Job, JobKind, WordsFault, job_of};
 use pack_jobs::pack_job;
 use std::alloc::Global;
+use stream_jobs::{join_job, stream_job};
 use text_jobs::text_job;
 
 const MAX_INPUT: u64 = 1_099_511_627_776;
@@ -104,10 +106,54 @@ fn do_kind<S: Source, O: Sink>(
         JobKind::Head => head_job(alloc, limit, source, out),
         JobKind::Send | JobKind::Recv | JobKind::Replay => net_job(alloc, job, limit, source, out),
         JobKind::Sdp => text_job(alloc, limit, source, out),
+        JobKind::Apart | JobKind::Extract => stream_job(alloc, job, limit, source, out),
+        JobKind::Join => join_job(alloc, streams_in(job), limit, source, out),
         JobKind::Make => make_job(alloc, seed_in(job), count_in(job), out),
         JobKind::Trial => trial_job(alloc, seed_in(job), count_in(job), out),
-        _ => pack_job(alloc, job, limit, source, out),
+        _ => packet_job(alloc, job, limit, source, out),
     }
+}
+
+// Does a job over packets, which may be multistream packets.
+fn packet_job<S: Source, O: Sink>(
+    alloc: Global,
+    job: &Job,
+    limit: u64,
+    source: &mut S,
+    out: &mut O,
+) -> Ending
+    requires some { 1 ≤ limit }
+    requires most { limit ≤ 2 ^ 40 }
+    requires fit { IsFit job.now }
+    requires kind { IsPackKind job.now.kind }
+    ensures { OverPackets (is_several job.now.streams) job.now limit
+        (seen_as (S.left source.old) (S.faults source.old) (O.contents out.old) (O.faults out.old) (O.refusals out.old))
+        (seen_as (S.left source.new) (S.faults source.new) (O.contents out.new) (O.faults out.new) (O.refusals out.new))
+        (source.new ≡ source.old) result }
+{
+    if is_several(job.streams) {
+        stream_job(alloc, job, limit, source, out)
+    } else {
+        pack_job(alloc, job, limit, source, out)
+    }
+}
+
+// More streams than one.
+fn is_several(streams: Option<u8>) -> bool
+    ensures { result ≡ is_several streams }
+{
+    match streams {
+        Some(streams) => streams > 1,
+        None => false,
+    }
+}
+
+// The records of a group.
+fn streams_in(job: &Job) -> u8
+    ensures is { result ≡ streams_in job.now }
+    ensures some { 1 ≤ result }
+{
+    job.streams.unwrap_or(1).max(1)
 }
 
 // What records are made from.

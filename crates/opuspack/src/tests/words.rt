@@ -30,7 +30,7 @@ impl Env for Arguments {
 }
 
 // The words, and what the note says of them.
-static WORDS: [(&[&str], &str); 11] = [
+static WORDS: [(&[&str], &str); 10] = [
     (&["norm", "--loud", "yes"], "usage: words"),
     (&["sing"], "usage: job"),
     (&["norm", "--size", "4"], "usage: option --size"),
@@ -40,7 +40,6 @@ static WORDS: [(&[&str], &str); 11] = [
         &["extract", "--streams", "2", "--stream", "2"],
         "usage: value --stream",
     ),
-    (&["norm", "--streams", "2"], "usage: not built"),
     (
         &["norm", "--form", "self", "--streams", "2"],
         "usage: value --streams",

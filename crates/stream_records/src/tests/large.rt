@@ -20,7 +20,9 @@ fn is_open_to_its_end<F: Form<Record = StreamsItem, Cut = Cut>>(
     for _ in 0..input.len() {
         let piece = &rest[..rest.len().min(step.min(4096))];
         if !piece.is_empty() {
-            let fed = form.feed(at.min(MOST), piece)?;
+            let Ok(fed) = form.feed(at.min(MOST), piece) else {
+                return false;
+            };
             early = early || fed.whole;
             at = at.saturating_add(fed.count as u64);
             rest = &rest[fed.count..];

@@ -101,7 +101,7 @@ fn front_found<F: Form<Record = StreamsItem, Cut = Cut>>(
     front: &[u8],
 ) -> Option<StreamsFound> {
     if !front.is_empty() && front.len() < 100 {
-        let fed = form.feed(0, front)?;
+        let fed = form.feed(0, front).ok()?;
         if fed.whole {
             return Some(form.record(&front[..fed.count]).item().found);
         }
