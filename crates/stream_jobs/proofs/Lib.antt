@@ -7,3 +7,5 @@ pub mod SoFar
 pub mod StreamsInLemmas
 pub mod ApartLemmas
 pub mod StreamLemmas
+pub mod EachLemmas
+pub mod LawLemmas

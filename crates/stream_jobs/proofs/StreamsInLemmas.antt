@@ -1,5 +1,6 @@
 -- The packets that stand one after another in some bytes, and their values.
-use Rattle.std.proofs.Common.{◌≡◌, ℕ, zero, suc, ◌<◌, ◌≤◌, List, [], ◌∷◌, length, take, drop, Option, Some, None, IfSome, option_map, Result, Ok, Err, IfOk, refl, sym, ap, ◌∙◌, subst, take_all, arith}
+use Rattle.std.proofs.Common.{◌≡◌, ℕ, zero, suc, ◌+◌, ◌<◌, ◌≤◌, List, [], ◌∷◌, ◌++◌, length, take, drop, map, length-append, Option, Some, None, IfSome, option_map, Result, Ok, Err, IfOk, refl, sym, ap, ◌∙◌, subst, take_all, arith}
+use Rattle.std.proofs.lemmas.List.{length-map}
 use Rattle.std.specs.Result.{IsOkAnd, result_ok}
 use Rattle.opus_packet.specs.declared.shape.Shape.{Shape}
 use Rattle.opus_packet.specs.Value.{PacketValue}
@@ -8,10 +9,15 @@ use Rattle.opus_packet.specs.PacketPrefix.{AreBytes}
 use Rattle.opus_packet.specs.SelfGrammar.{IsSelfDelimited, BeginsWithSelf}
 use Rattle.opus_packet.proofs.BytesLemmas.{AreBytes-take}
 use Rattle.opus_self.proofs.SelfLemmas.{begins_only}
+use Rattle.opus_multi.specs.Streams.{SpelledStream, BeginsWithStream, StandFirst, IsLastStream, AreStreams}
 use Rattle.opus_feed.specs.declared.framing.Framing.{Framing}
 use Rattle.opus_feed.specs.declared.framing.Framing.TheVariants.{Whole, SelfDelimited}
 use Rattle.pack_records.specs.Lent.{lent_value}
 use Rattle.pack_records.proofs.LentLemmas.{lent_value-spelled, lent_value-only, whole_told}
+use Rattle.job_loop.specs.Shown.{Shown}
+use Rattle.stream_records.specs.declared.item.StreamsItem.{StreamsItem}
+use Rattle.stream_records.specs.Holds.{Choices, HoldsStreams}
+use Rattle.stream_records.proofs.LentLemmas.{lent_values}
 use Rattle.stream_jobs.specs.StreamsIn.{framing_before, told_size, first_size, first_value, first_then, streams_in}
 
 -- framings
@@ -96,3 +102,46 @@ pub streams-none : (left behind : ℕ) (bytes : List ℕ) (o : Option PacketValu
 streams-none left behind bytes o left_is value is =
     ap (λ n. streams_in n bytes) left_is
     ∙ ap (λ w. first_then w (streams_in behind (drop (first_size (framing_before behind) bytes) bytes))) (sym value ∙ is)
+
+-- the last one is all of the bytes that are left
+last-alone : (s : SpelledStream) (bytes rest : List ℕ) → bytes ≡ rest → IsLastStream s rest
+    → streams_in 1 bytes ≡ s.value ∷ []
+last-alone s bytes rest is last =
+    streams-first 1 0 bytes (first_value Whole bytes) s.value (length bytes) refl refl
+    (sym (whole-value bytes) ∙ lent_value-spelled Whole s.value s.shape s.tail bytes
+    (subst (IsPacket s.value s.shape s.tail) (sym is) last.spelled)) refl
+
+streams-stand : (front : List SpelledStream) (last : SpelledStream) (bytes rest : List ℕ) → StandFirst front bytes rest
+    → IsLastStream last rest → streams_in (length front + 1) bytes ≡ map (λ s. s.value) (front ++ last ∷ [])
+streams-stand [] last bytes rest stand ends = last-alone last bytes rest stand ends
+streams-stand (s ∷ ss) last bytes rest stand ends =
+    let begins : BeginsWithSelf s.value s.shape s.size bytes =
+    record { within = stand.0.within; spelled = (s.tail, stand.0.spelled) } in
+    let other = framing-other (length ss + 1) (omega arith) in
+    let more : suc (length ss) + 1 ≡ suc (length ss + 1) = omega arith in
+    ap (λ n. streams_in n bytes) more
+    ∙ streams-first (suc (length ss + 1)) (length ss + 1) bytes (Some s.value) s.value s.size refl
+    (begins-value s.value s.shape s.size bytes begins ∙ ap (λ f. first_value f bytes) (sym other)) refl
+    (begins-size s.value s.shape s.size bytes begins ∙ ap (λ f. first_size f bytes) (sym other))
+    ∙ ap (λ l. s.value ∷ l) (streams-stand ss last (drop s.size bytes) rest stand.1 ends)
+
+-- the streams of a multistream packet
+pub streams-are : (ss : List SpelledStream) (bytes : List ℕ) → AreStreams ss bytes
+    → streams_in (length ss) bytes ≡ map (λ s. s.value) ss
+streams-are ss bytes are =
+    let count : length ss ≡ length are.front + 1 =
+    ap (λ l. length l) are.streams_are ∙ length-append are.front (are.last ∷ []) in
+    ap (λ n. streams_in n bytes) count
+    ∙ streams-stand are.front are.last bytes are.rest are.stand are.ends
+    ∙ ap (map (λ s. s.value)) (sym are.streams_are)
+
+-- the streams of a record
+pub streams-held : (c : Choices) (start range : ℕ) (bytes : List ℕ) (r : Shown StreamsItem)
+    (holds : HoldsStreams c start range bytes r)
+    → streams_in c.streams r.bytes ≡ map (λ s. s.value) holds.streams
+streams-held c start range bytes r holds =
+    let m = lent_values c start range bytes r holds in
+    let count : c.streams ≡ length m.streams =
+    sym holds.counted ∙ sym (length-map holds.streams (λ (s : SpelledStream). s.value))
+    ∙ ap (λ l. length l) m.values_are ∙ length-map m.streams (λ (s : SpelledStream). s.value) in
+    ap (λ n. streams_in n r.bytes) count ∙ streams-are m.streams r.bytes m.are ∙ sym m.values_are

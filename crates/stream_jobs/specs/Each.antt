@@ -1,5 +1,5 @@
 -- A job that makes something of each record by itself, and keeps the number of records alone.
-use Rattle.std.specs.Prelude.{◌≡◌, ℕ, ◌+◌, List, [], ◌∷◌, ◌++◌, length}
+use Rattle.std.specs.Prelude.{ℕ, ◌+◌, List, []}
 use Rattle.job_loop.specs.Shown.{Shown}
 use Rattle.job_loop.specs.Meaning.{Meaning, Step, goes, stops}
 use Rattle.job_loop.specs.declared.input_end.InputEnd.{InputEnd}
@@ -50,7 +50,16 @@ each_end count ends.Closed = goes [] tt
 each_end count (ends.Cut cut) = stops [] (refusal_of (told count) cut.place why.StoreCut)
 each_end count ends.Past = goes [] tt
 
--- the job that makes this of each record of so many streams
+-- the job that makes this of each record, which has this number
+abbrev pub each_of : (ℕ → Shown StreamsItem → Made) → Meaning (Shown StreamsItem) ℕ Cut StreamRefusal
+each_of made = record {
+  opening = [];
+  start = 0;
+  step = λ count r. made_step (told count) count (made count r);
+  finish = each_end;
+}
+
+-- the same of each record of so many streams, by what the job makes of it
 abbrev pub each : ℕ → Makes → Meaning (Shown StreamsItem) ℕ Cut StreamRefusal
 each streams makes = record {
   opening = [];
@@ -58,14 +67,3 @@ each streams makes = record {
   step = λ count r. made_step (told count) count (made_of streams makes (told count) r);
   finish = each_end;
 }
-
--- ---- what is written for records, of which the first has this number
-
-abbrev pub text_of : Made → List ℕ
-text_of (writes text) = text
-text_of (refuses place why) = []
-
-abbrev pub texts_from : ℕ → Makes → ℕ → List (Shown StreamsItem) → List ℕ
-texts_from streams makes number [] = []
-texts_from streams makes number (r ∷ rs) =
-    text_of (made_of streams makes (told number) r) ++ texts_from streams makes (number + 1) rs
