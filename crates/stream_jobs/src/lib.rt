@@ -13,10 +13,13 @@ mod join;
 pub mod join_laws;
 #[cfg(test)]
 mod join_tests;
+pub mod laws;
 mod norm;
 mod refusal;
 mod stream;
 mod stream_packets;
+#[cfg(test)]
+mod tests;
 
 pub use join::{Join, join_job};
 pub use refusal::{StreamRefusal, StreamWhy};
