@@ -18,6 +18,7 @@ mod outside;
 mod pad;
 mod send;
 mod split;
+mod streams;
 mod trial;
 mod words;
 
