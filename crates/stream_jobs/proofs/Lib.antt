@@ -9,3 +9,4 @@ pub mod ApartLemmas
 pub mod StreamLemmas
 pub mod EachLemmas
 pub mod LawLemmas
+pub mod ShowLemmas

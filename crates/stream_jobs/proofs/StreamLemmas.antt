@@ -20,6 +20,7 @@ use Rattle.job_ends.proofs.EndsLemmas.{unstarted_ends}
 use Rattle.stream_jobs.specs.Refusal.{Tells}
 use Rattle.stream_jobs.specs.Norm.{norm}
 use Rattle.stream_jobs.specs.Check.{check}
+use Rattle.stream_jobs.specs.Show.{show}
 use Rattle.stream_jobs.specs.Apart.{apart}
 use Rattle.stream_jobs.specs.Extract.{extract}
 use Rattle.stream_jobs.specs.StreamEnds.{place_of, KindEnds, JobEnds, StreamEnds, IsStreamKind, IsStreamForm, form_of, padding_of, streams_of, stream_of, choices_in, settles_in, ends_in}
@@ -34,7 +35,7 @@ pub unstarted_kind : (kind : JobKind) → IsStreamKind kind → (job : Job)
 unstarted_kind kinds.Norm is job =
     unstarted_ends Tells place_of (norm (form_of job) (streams_of job) (padding_of job))
 unstarted_kind kinds.Check is job = unstarted_ends Tells place_of (check (streams_of job))
-unstarted_kind kinds.Show is job = absurd is
+unstarted_kind kinds.Show is job = unstarted_ends Tells place_of (show (streams_of job))
 unstarted_kind kinds.Merge is job = absurd is
 unstarted_kind kinds.Split is job = absurd is
 unstarted_kind kinds.Pad is job = absurd is

@@ -11,6 +11,7 @@ pub mod StreamsIn
 pub mod Norm
 pub mod Apart
 pub mod Extract
+pub mod Show
 pub mod Check
 pub mod CheckStands
 pub mod StreamEnds

@@ -8,7 +8,7 @@ use Rattle.opus_feed.specs.declared.padding.Padding.TheVariants as paddings
 use Rattle.opus_words.specs.declared.form.Form.{Form}
 use Rattle.opus_words.specs.declared.form.Form.TheVariants.{Raw, Demo, SelfDelimited}
 use Rattle.opus_words.specs.declared.kind.JobKind.{JobKind}
-use Rattle.opus_words.specs.declared.kind.JobKind.TheVariants.{Norm, Check, Apart, Extract}
+use Rattle.opus_words.specs.declared.kind.JobKind.TheVariants.{Norm, Check, Show, Apart, Extract}
 use Rattle.opus_words.specs.declared.job.Job.{Job}
 use Rattle.opus_words.specs.declared.ending.Ending.{Ending}
 use Rattle.job_ends.specs.Ends as ends
@@ -21,6 +21,7 @@ use Rattle.stream_jobs.specs.declared.refusal.StreamRefusal.{StreamRefusal}
 use Rattle.stream_jobs.specs.Refusal.{Tells}
 use Rattle.stream_jobs.specs.Norm.{norm}
 use Rattle.stream_jobs.specs.Check.{check}
+use Rattle.stream_jobs.specs.Show.{show}
 use Rattle.stream_jobs.specs.Apart.{apart}
 use Rattle.stream_jobs.specs.Extract.{extract}
 
@@ -28,6 +29,7 @@ use Rattle.stream_jobs.specs.Extract.{extract}
 abbrev pub IsStreamKind : JobKind → Type 0
 IsStreamKind Norm = Unit {0}
 IsStreamKind Check = Unit {0}
+IsStreamKind Show = Unit {0}
 IsStreamKind Apart = Unit {0}
 IsStreamKind Extract = Unit {0}
 IsStreamKind kind = ⊥
@@ -80,6 +82,7 @@ abbrev pub KindEnds : JobKind → Job → (List ℕ → List (Shown StreamsItem)
     → (List ℕ → List (Shown StreamsItem) → Option Cut → Type 0) → ℕ → Outside → Outside → Type 0 → Ending → Type 0
 KindEnds Norm job = MeaningEnds (norm (form_of job) (streams_of job) (padding_of job))
 KindEnds Check job = MeaningEnds (check (streams_of job))
+KindEnds Show job = MeaningEnds (show (streams_of job))
 KindEnds Apart job = MeaningEnds (apart (streams_of job))
 KindEnds Extract job = MeaningEnds (extract (streams_of job) (stream_of job))
 KindEnds kind job = λ Settles Ends limit before after Untouched result. ⊥

@@ -16,6 +16,7 @@ mod join_tests;
 pub mod laws;
 mod norm;
 mod refusal;
+mod show;
 mod stream;
 mod stream_packets;
 #[cfg(test)]

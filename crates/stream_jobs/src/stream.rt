@@ -12,6 +12,7 @@ use crate::each::Each;
 use crate::extract::Extract;
 use crate::norm::Norm;
 use crate::refusal::StreamRefusal;
+use crate::show::Show;
 use job_ends::run_made;
 use job_loop::{Form as RecordForm, RecordJob};
 use opus_feed::Padding;
@@ -154,6 +155,10 @@ where
             run_over(alloc, limit, records, Each::new(norm, streams), source, out)
         }
         JobKind::Check => run_over(alloc, limit, records, Check::new(streams), source, out),
+        JobKind::Show => {
+            let show = Show { streams };
+            run_over(alloc, limit, records, Each::new(show, streams), source, out)
+        }
         JobKind::Apart => {
             let apart = Apart { streams };
             run_over(
