@@ -1,4 +1,4 @@
-use Rattle.std.proofs.Common.{◌≡◌, ◌∙◌, sym}
+use Rattle.std.proofs.Common.{◌∙◌, sym}
 use Rattle.opuspack.proofs.RunLemmas.{is_pack_job, is_many_job}
 use Rattle.opuspack.proofs.run.packet_job.Goals as goal
 
