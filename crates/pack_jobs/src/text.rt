@@ -5,6 +5,7 @@ ghost use Rattle.pack_jobs.specs.Refusal.{rule_name, fault_text, refusal_text, T
 
 use crate::refusal::{Refusal, Why};
 use arrayvec::ArrayString;
+use itoa::Buffer;
 use job_ends::Told;
 use opus_packet::{Fault, Rule};
 use opus_words::JobFault;
@@ -15,29 +16,8 @@ pub fn decimal_text(n: u64) -> ArrayString<20>
     ensures most { length result.bytes ≤ 20 }
 {
     let mut text = ArrayString::new();
-    push_decimal(n, &mut text);
+    text.push_str(Buffer::new().format(n));
     text
-}
-
-// Appends the digits, the highest first.
-fn push_decimal(n: u64, text: &mut ArrayString<20>)
-    requires { array_string_len text.old + length (decimal n) ≤ 20 }
-    ensures { text.new.bytes ≡ text.old.bytes ++ decimal n }
-{
-    if n < 10 {
-        push_digit(n as u8, text);
-    } else {
-        push_decimal(n / 10, text);
-        push_digit((n % 10) as u8, text);
-    }
-}
-
-fn push_digit(digit: u8, text: &mut ArrayString<20>)
-    requires digit { digit < 10 }
-    requires room { array_string_len text.old < 20 }
-    ensures { text.new.bytes ≡ text.old.bytes ++ (48 + digit) ∷ [] }
-{
-    text.push(char::from(b'0' + digit));
 }
 
 /// `RULE at P`, where P counts from the first byte that could be a packet's.
