@@ -22,6 +22,7 @@ use Rattle.stream_jobs.specs.Each.{Made, writes, refuses, Makes, found_made, mad
 use Rattle.stream_jobs.specs.Norm.{long_from, long_in, norm_packets, norm_makes}
 use Rattle.stream_jobs.specs.Apart.{stream_record, stream_records, apart_makes}
 use Rattle.stream_jobs.specs.Extract.{value_record, extract_makes}
+use Rattle.stream_jobs.specs.Show.{stream_lines, show_makes}
 use Rattle.stream_jobs.proofs.StreamsInLemmas.{streams-held}
 
 -- what is made of a packet
@@ -88,3 +89,13 @@ norm-dropped form streams number start range bytes r holds =
     held_made streams (norm_makes form streams Drop) number (record { streams = streams; padding = Drop }) start range bytes
     r holds
     ∙ ap (λ (s : Shown StreamsItem). norm_packets form streams s None) holds.shows
+
+pub show-held : (c : Choices) (number start range : ℕ) (bytes : List ℕ) (r : Shown StreamsItem)
+    (holds : HoldsStreams c start range bytes r)
+    → made_of c.streams (show_makes c.streams) number r
+    ≡ writes (stream_lines number 0 (map (spelling_of c.padding) holds.streams) (map (λ s. s.value) holds.streams))
+show-held c number start range bytes r holds =
+    held_made c.streams (show_makes c.streams) number c start range bytes r holds
+    ∙ ap (λ vs. writes (stream_lines number 0 r.item.streams.items vs)) (streams-held c start range bytes r holds)
+    ∙ ap (λ (s : Shown StreamsItem). writes (stream_lines number 0 s.item.streams.items (map (λ s. s.value) holds.streams)))
+    holds.shows

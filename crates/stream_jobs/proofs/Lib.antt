@@ -10,3 +10,4 @@ pub mod StreamLemmas
 pub mod EachLemmas
 pub mod LawLemmas
 pub mod ShowLemmas
+pub mod ApartJoined

@@ -10,12 +10,13 @@ ghost use Rattle.opus_feed.specs.declared.padding.Padding.TheVariants.{Drop};
 ghost use Rattle.opus_multi.specs.Streams.{SpelledStream, AreStreams};
 ghost use Rattle.opus_multi.specs.Forms.{kept_multistream};
 ghost use Rattle.opus_words.specs.declared.form.Form.{Form};
+ghost use Rattle.opus_words.specs.declared.form.Form.TheVariants.{Demo};
 ghost use Rattle.pack_records.specs.declared.cut.Cut.{Cut};
 ghost use Rattle.pack_jobs.specs.Refusal.{told};
 ghost use Rattle.pack_jobs.specs.Records.{record_bytes};
 ghost use Rattle.pack_jobs.specs.Written.{IsUncut};
 ghost use Rattle.stream_records.specs.declared.item.StreamsItem.{StreamsItem};
-ghost use Rattle.stream_records.specs.Holds.{Choices, HoldsStreams, held_as};
+ghost use Rattle.stream_records.specs.Holds.{Choices, HoldsStreams, held_as, spelling_of};
 ghost use Rattle.stream_jobs.specs.declared.refusal.StreamWhy.TheVariants.{StoreCut};
 ghost use Rattle.stream_jobs.specs.declared.refusal.StreamRefusal.{StreamRefusal};
 ghost use Rattle.stream_jobs.specs.Refusal.{refusal_of};
@@ -25,6 +26,8 @@ ghost use Rattle.stream_jobs.specs.StreamsIn.{streams_in};
 ghost use Rattle.stream_jobs.specs.Norm.{norm_makes};
 ghost use Rattle.stream_jobs.specs.Apart.{stream_record, stream_records, apart_makes};
 ghost use Rattle.stream_jobs.specs.Extract.{extract_makes};
+ghost use Rattle.stream_jobs.specs.Show.{stream_lines, show_makes};
+ghost use Rattle.stream_jobs.specs.Join.{part_of, joined};
 
 /// A job that makes something of each record by itself has written what it makes of all of them, exactly where it refuses
 /// none and no cut follows. Refused, it has written what it makes of those before the first refused one, or before the cut.
@@ -64,6 +67,20 @@ pub fn extract_writes_the_stream_that_is_chosen()
         (holds : HoldsStreams c start range bytes r) (s : SpelledStream)
         → slice_get holds.streams stream ≡ Some s
         → made_of c.streams (extract_makes c.streams stream) number r ≡ writes (stream_record s.value) }
+{}
+
+/// Of a record that holds a multistream packet, show writes the lines of each stream, by its value and how it was spelled.
+pub fn show_writes_the_lines_of_each_stream()
+    ensures { (c : Choices) (number start range : ℕ) (bytes : List ℕ) (r : Shown StreamsItem)
+        (holds : HoldsStreams c start range bytes r) → made_of c.streams (show_makes c.streams) number r
+        ≡ writes (stream_lines number 0 (map (spelling_of c.padding) holds.streams)
+        (map (λ s. s.value) holds.streams)) }
+{}
+
+/// The packets that apart writes of a record, joined again, are the record that norm writes with range 0.
+pub fn what_apart_writes_joins_to_what_norm_writes()
+    ensures { (ss : List SpelledStream) → joined (map (λ s. part_of (Some s.value) 0) ss)
+        ≡ record_bytes Demo 0 (kept_multistream (map (held_as Drop) ss)) }
 {}
 
 /// Of a record that holds a multistream packet, norm writes the kept form of its streams: where padding bytes are dropped,

@@ -19,6 +19,7 @@ enum Work {
     // Norm in form raw with its padding bytes kept.
     Keep,
     Check(Form),
+    Show(Form),
     Apart,
     // This stream.
     Extract(u8),
@@ -52,6 +53,7 @@ fn job(work: Work, streams: u8) -> Job
             job_of(JobKind::Norm, Some(Form::Raw), streams, None, keep)
         }
         Work::Check(f) => job_of(JobKind::Check, Some(form(f)), streams, None, None),
+        Work::Show(f) => job_of(JobKind::Show, Some(form(f)), streams, None, None),
         Work::Apart => job_of(JobKind::Apart, None, streams, None, None),
         Work::Extract(stream) => job_of(JobKind::Extract, None, streams, Some(stream), None),
     }
@@ -92,7 +94,24 @@ type Refused = (u64, u64, &'static str);
 // A job over so many streams, an input, a refusal of it, if there is one, and all that is written.
 type Row = (Work, u8, &'static [u8], Option<Refused>, &'static [u8]);
 
-const ROWS: [Row; 23] = [
+const ROWS: [Row; 25] = [
+    (
+        Work::Show(Form::Raw),
+        2,
+        b"\xfb\x41\x01\x01\xaa\0\xfb\x01\xbb",
+        None,
+        b"0.0: config 31 celt fb 960 samples mono, code 3, 1 frames, pad 2, 6 bytes\n\
+        0.0.0: 1 bytes\n\
+        0.1: config 31 celt fb 960 samples mono, code 3, 1 frames, pad 0, 3 bytes\n\
+        0.1.0: 1 bytes\n",
+    ),
+    (
+        Work::Show(Form::Demo),
+        2,
+        b"\0\0\0\0\0\0\0\x07\0\0\0\x05\0\0\0\0\xf8\x01\xaa\xf0\xbb",
+        Some((1, 19, "unequal stream 1")),
+        b"0: lost\n",
+    ),
     (
         NORM,
         2,
