@@ -11,3 +11,4 @@ pub mod EachLemmas
 pub mod LawLemmas
 pub mod ShowLemmas
 pub mod ApartJoined
+pub mod AgreeLemmas

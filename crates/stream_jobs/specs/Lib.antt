@@ -15,3 +15,4 @@ pub mod Show
 pub mod Check
 pub mod CheckStands
 pub mod StreamEnds
+pub mod Contents

@@ -1,0 +1,11 @@
+use Rattle.stream_jobs.proofs.AgreeLemmas.{norm_agree, norm_contents, bare_held}
+use Rattle.stream_jobs.proofs.agree_laws.norm_keeps_what_the_records_hold_alone.Goals as goal
+
+pub returns-clause-same : goal.returns-clause-same
+returns-clause-same c = norm_agree
+
+pub returns-clause-contents : goal.returns-clause-contents
+returns-clause-contents c = norm_contents
+
+pub returns-clause-dropped : goal.returns-clause-dropped
+returns-clause-dropped c = bare_held
