@@ -1,7 +1,6 @@
 -- What apart writes of a record, joined again.
 use Rattle.std.proofs.Common.{◌≡◌, ℕ, List, [], ◌∷◌, ◌++◌, map, Some, refl, ap, ◌∙◌}
 use Rattle.rec_store.specs.DemoStore.{demo_record}
-use Rattle.opus_packet.specs.Value.{PacketValue}
 use Rattle.opus_packet.specs.Canonical.{canonical_self_delimited}
 use Rattle.opus_packet.specs.Tail.{kept_bytes}
 use Rattle.opus_feed.specs.declared.padding.Padding.TheVariants.{Drop}
@@ -11,7 +10,7 @@ use Rattle.opus_multi.specs.Forms.{canonical_multistream, kept_multistream, kept
 use Rattle.opus_packet.proofs.SpellingLemmas.{kept_form-nil}
 use Rattle.opus_writer.proofs.FormLemmas.{kept_self-nil}
 use Rattle.stream_records.specs.Holds.{held_as}
-use Rattle.stream_jobs.specs.Join.{Part, part_of, values_of, ranges_of, packets_in, xor_behind, xor_of, joined}
+use Rattle.stream_jobs.specs.Join.{Part, part_of, values_of, ranges_of, packets_in, xor_of, joined}
 
 -- the packets of a record, as join takes them
 abbrev parts_of : List SpelledStream → List Part

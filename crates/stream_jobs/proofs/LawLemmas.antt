@@ -1,5 +1,5 @@
 -- What the jobs make of a record that holds a multistream packet.
-use Rattle.std.proofs.Common.{◌≡◌, ℕ, ◌+◌, ◌≤◌, nat_le, nat_lt, Bool, true, false, if◌then◌else◌, List, [], ◌∷◌, length, map, Option, None, Some, option_map, sym, ap, ◌∙◌, refl, arith}
+use Rattle.std.proofs.Common.{◌≡◌, ℕ, ◌+◌, ◌≤◌, nat_le, nat_lt, Bool, true, false, if◌then◌else◌, List, [], ◌∷◌, length, map, None, Some, option_map, ap, ◌∙◌, refl}
 use Rattle.std.specs.List.{AllByRecursion, slice_get}
 use Rattle.std.proofs.lemmas.Bool.{le-leb}
 use Rattle.std.proofs.lemmas.Option.{slice_get-map}
@@ -7,18 +7,14 @@ use Rattle.job_loop.specs.Shown.{Shown}
 use Rattle.opus_packet.specs.Tail.{max_tail, kept, counted}
 use Rattle.opus_feed.specs.declared.padding.Padding.{Padding}
 use Rattle.opus_feed.specs.declared.padding.Padding.TheVariants.{Drop, Keep}
-use Rattle.opus_feed.specs.Tails.{tail_kept}
 use Rattle.opus_multi.specs.Streams.{SpelledStream}
 use Rattle.opus_multi.specs.Parts.{dropped_of}
 use Rattle.opus_multi.specs.Forms.{kept_multistream}
 use Rattle.opus_words.specs.declared.form.Form.{Form}
 use Rattle.pack_jobs.specs.Records.{record_bytes}
-use Rattle.stream_records.specs.declared.item.StreamsFound.{StreamsFound}
 use Rattle.stream_records.specs.declared.item.StreamsItem.{StreamsItem}
 use Rattle.stream_records.specs.Holds.{Choices, held_as, spelling_of, packets_record, HoldsStreams}
-use Rattle.stream_jobs.specs.StreamsIn.{streams_in}
-use Rattle.stream_jobs.specs.Bad.{long_why}
-use Rattle.stream_jobs.specs.Each.{Made, writes, refuses, Makes, found_made, made_of}
+use Rattle.stream_jobs.specs.Each.{writes, Makes, found_made, made_of}
 use Rattle.stream_jobs.specs.Norm.{long_from, long_in, norm_packets, norm_makes}
 use Rattle.stream_jobs.specs.Apart.{stream_record, stream_records, apart_makes}
 use Rattle.stream_jobs.specs.Extract.{value_record, extract_makes}

@@ -4,16 +4,15 @@ use Rattle.std.proofs.lemmas.List.{length-map}
 use Rattle.std.specs.Result.{IsOkAnd, result_ok}
 use Rattle.opus_packet.specs.declared.shape.Shape.{Shape}
 use Rattle.opus_packet.specs.Value.{PacketValue}
-use Rattle.opus_packet.specs.PacketGrammar.{IsPacket, Spells}
+use Rattle.opus_packet.specs.PacketGrammar.{IsPacket}
 use Rattle.opus_packet.specs.PacketPrefix.{AreBytes}
 use Rattle.opus_packet.specs.SelfGrammar.{IsSelfDelimited, BeginsWithSelf}
 use Rattle.opus_packet.proofs.BytesLemmas.{AreBytes-take}
 use Rattle.opus_self.proofs.SelfLemmas.{begins_only}
-use Rattle.opus_multi.specs.Streams.{SpelledStream, BeginsWithStream, StandFirst, IsLastStream, AreStreams}
-use Rattle.opus_feed.specs.declared.framing.Framing.{Framing}
+use Rattle.opus_multi.specs.Streams.{SpelledStream, StandFirst, IsLastStream, AreStreams}
 use Rattle.opus_feed.specs.declared.framing.Framing.TheVariants.{Whole, SelfDelimited}
 use Rattle.pack_records.specs.Lent.{lent_value}
-use Rattle.pack_records.proofs.LentLemmas.{lent_value-spelled, lent_value-only, whole_told}
+use Rattle.pack_records.proofs.LentLemmas.{lent_value-spelled, lent_value-only}
 use Rattle.job_loop.specs.Shown.{Shown}
 use Rattle.stream_records.specs.declared.item.StreamsItem.{StreamsItem}
 use Rattle.stream_records.specs.Holds.{Choices, HoldsStreams}

@@ -1,5 +1,5 @@
 -- Which jobs `stream_job` does, and what it answers for each.
-use Rattle.std.specs.Prelude.{◌≡◌, ℕ, List, unwrap_or, Option, max}
+use Rattle.std.specs.Prelude.{ℕ, List, unwrap_or, Option, max}
 use Rattle.opus_io.specs.Outside.{Outside}
 use Rattle.job_loop.specs.Shown.{Shown}
 use Rattle.job_loop.specs.Meaning.{Meaning}
