@@ -12,3 +12,4 @@ pub mod LawLemmas
 pub mod ShowLemmas
 pub mod ApartJoined
 pub mod AgreeLemmas
+pub mod JoinAgainLemmas

@@ -16,3 +16,4 @@ pub mod Check
 pub mod CheckStands
 pub mod StreamEnds
 pub mod Contents
+pub mod JoinAgain

@@ -4,6 +4,7 @@
 //! A job knows no form's bytes and no reading; `job_loop` hands it each record as soon as its bytes decide it.
 #![tactic(auto)]
 
+pub mod again_laws;
 pub mod agree_laws;
 mod apart;
 mod bad;

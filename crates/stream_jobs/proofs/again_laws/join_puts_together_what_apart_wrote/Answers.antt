@@ -1,0 +1,8 @@
+use Rattle.stream_jobs.proofs.JoinAgainLemmas.{apart_taken, joined_again}
+use Rattle.stream_jobs.proofs.again_laws.join_puts_together_what_apart_wrote.Goals as goal
+
+pub returns-clause-taken : goal.returns-clause-taken
+returns-clause-taken c = apart_taken
+
+pub returns-clause-again : goal.returns-clause-again
+returns-clause-again c = joined_again
