@@ -26,6 +26,10 @@ JOBS = [
     ["show", "--form", "demo"],
     ["recv"],
     ["replay"],
+    ["norm", "--form", "demo", "--streams", "4"],
+    ["check", "--form", "demo", "--streams", "4"],
+    ["apart", "--streams", "4"],
+    ["extract", "--streams", "4", "--stream", "1"],
 ]
 
 
@@ -64,6 +68,7 @@ GOALS = {
     ("split", "180 to 220 bytes"): 450,
     ("pad", "180 to 220 bytes"): 450,
     ("send", "180 to 220 bytes"): 500,
+    ("norm", "four streams"): 1_600,
     ("recv", "100 bytes"): 600,
     ("replay", "100 bytes"): 800,
 }
@@ -91,6 +96,15 @@ def spelled_length(size):
 def framed(packet):
     """A packet of code 0 as self-delimited."""
     return packet[:1] + spelled_length(len(packet) - 1) + packet[1:]
+
+
+def surround(k):
+    """A multistream packet of four streams of 200 bytes each."""
+    packets = [b"\xfc" + bytes((k + s + t) % 256 for t in range(199)) for s in range(4)]
+    return b"".join(framed(packet) for packet in packets[:3]) + packets[3]
+
+
+STREAMS = {"four streams": surround}
 
 
 def demo(k, packet):
@@ -288,7 +302,7 @@ def main():
                 far = f"{receiving(words, 32_767, 1_000, 1_200, folder):.0f} where each jumps 32,767 ahead (goal 100000)"
                 print(f"{words[0]}, 100 bytes: {told}, {far}")
                 continue
-            for name, payload in STORES.items():
+            for name, payload in STREAMS.items() if "--streams" in words else STORES.items():
                 if payload is spelled and (words[0] in ("merge", "pad") or "self" in words):
                     continue
                 packet, byte = costs(words, payload, folder)
