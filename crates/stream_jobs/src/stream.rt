@@ -55,6 +55,19 @@ fn stream_of(job: &Job) -> u8
     job.stream.unwrap_or(0)
 }
 
+// What norm makes of each record.
+fn norm_of(job: &Job) -> Norm
+    ensures form { result.form ≡ form_of job.now }
+    ensures streams { result.streams ≡ streams_of job.now }
+    ensures padding { result.padding ≡ padding_of job.now }
+{
+    Norm {
+        form: form_of(job),
+        streams: streams_of(job),
+        padding: padding_of(job),
+    }
+}
+
 /// Does a job over multistream packets (RFC 7845, section 3): reads `source` up to `limit` bytes, from 1 to 2^40, and
 /// writes to `out`.
 ///
@@ -147,42 +160,22 @@ where
     let streams = streams_of(job);
     match job.kind {
         JobKind::Norm => {
-            let norm = Norm {
-                form: form_of(job),
-                streams,
-                padding: padding_of(job),
-            };
-            run_over(alloc, limit, records, Each::new(norm, streams), source, out)
+            let norm = Each::new(norm_of(job), streams);
+            run_over(alloc, limit, records, norm, source, out)
         }
         JobKind::Check => run_over(alloc, limit, records, Check::new(streams), source, out),
         JobKind::Show => {
-            let show = Show { streams };
-            run_over(alloc, limit, records, Each::new(show, streams), source, out)
+            let show = Each::new(Show { streams }, streams);
+            run_over(alloc, limit, records, show, source, out)
         }
         JobKind::Apart => {
-            let apart = Apart { streams };
-            run_over(
-                alloc,
-                limit,
-                records,
-                Each::new(apart, streams),
-                source,
-                out,
-            )
+            let apart = Each::new(Apart { streams }, streams);
+            run_over(alloc, limit, records, apart, source, out)
         }
         JobKind::Extract => {
-            let extract = Extract {
-                streams,
-                stream: stream_of(job),
-            };
-            run_over(
-                alloc,
-                limit,
-                records,
-                Each::new(extract, streams),
-                source,
-                out,
-            )
+            let stream = stream_of(job);
+            let extract = Each::new(Extract { streams, stream }, streams);
+            run_over(alloc, limit, records, extract, source, out)
         }
         _ => unreachable!(),
     }
