@@ -3,6 +3,7 @@ pub mod JoinEnds
 pub mod GroupsLemmas
 pub mod ShortLemmas
 mod JoinFacts
+mod StreamFacts
 pub mod SoFar
 pub mod StreamsInLemmas
 pub mod ApartLemmas
