@@ -44,7 +44,7 @@ small_by : (b : Bool) (tail : List ℕ) → nat_le (length tail) max_tail ≡ b
 small_by true tail e = leb-true (length tail) max_tail e
 small_by false tail e = omega arith
 
-kept_small : (padding : Padding) (tail : List ℕ) → length (kept_bytes (tail_kept padding tail)) ≤ max_tail
+pub kept_small : (padding : Padding) (tail : List ℕ) → length (kept_bytes (tail_kept padding tail)) ≤ max_tail
 kept_small Drop [] = omega arith
 kept_small Drop (x ∷ xs) = omega arith
 kept_small Keep tail = small_by (nat_le (length tail) max_tail) tail refl
@@ -84,7 +84,7 @@ are_held c range hs r h =
 
 -- the bytes of so many
 
-form_some : (hs : List HeldRead) → 1 ≤ length hs → AllByRecursion IsKeptValue hs → 1 ≤ length (kept_multistream hs)
+pub form_some : (hs : List HeldRead) → 1 ≤ length hs → AllByRecursion IsKeptValue hs → 1 ≤ length (kept_multistream hs)
 form_some [] some each = absurd (omega (arith, some))
 form_some (h ∷ []) some each = (form_sizes Whole h.value h.tail each.0.value each.0.tail).0
 form_some (h ∷ g ∷ hs) some each =
@@ -111,7 +111,7 @@ long_text : (form : Form) (streams : ℕ) (r : Shown StreamsItem) (o : Option �
 long_text form streams r None written = refl
 long_text form streams r (Some stream) written = absurd written
 
-abbrev norm_made : Form → Choices → ℕ → Shown StreamsItem → Made
+abbrev pub norm_made : Form → Choices → ℕ → Shown StreamsItem → Made
 norm_made form c number r = made_of c.streams (norm_makes form c.streams c.padding) (told number) r
 
 pub content_written : (form : Form) (c : Choices) (number range : ℕ) (o : Option (List HeldRead)) (r : Shown StreamsItem)
@@ -149,11 +149,11 @@ contents_text SelfDelimited c rs xs are written = absurd are
 
 -- ---- one text is that of one list of contents
 
-abbrev IsHeld : ℕ → Option (List HeldRead) → Type 0
+abbrev pub IsHeld : ℕ → Option (List HeldRead) → Type 0
 IsHeld count None = Unit {0}
 IsHeld count (Some hs) = AreHeld count hs
 
-held_fits : (count : ℕ) (o : Option (List HeldRead)) → count ≤ 255 → IsHeld count o → length (payload_in o) < 2 ^ 32
+pub held_fits : (count : ℕ) (o : Option (List HeldRead)) → count ≤ 255 → IsHeld count o → length (payload_in o) < 2 ^ 32
 held_fits count None most held = omega arith
 held_fits count (Some hs) most held = omega (arith, most, held.counted, form_most hs held.each)
 

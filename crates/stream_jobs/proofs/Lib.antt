@@ -14,3 +14,4 @@ pub mod ShowLemmas
 pub mod ApartJoined
 pub mod AgreeLemmas
 pub mod JoinAgainLemmas
+pub mod NormAgainLemmas

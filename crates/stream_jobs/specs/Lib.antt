@@ -17,3 +17,4 @@ pub mod CheckStands
 pub mod StreamEnds
 pub mod Contents
 pub mod JoinAgain
+pub mod NormAgain

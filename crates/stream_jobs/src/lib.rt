@@ -17,6 +17,7 @@ pub mod join_laws;
 mod join_tests;
 pub mod laws;
 mod norm;
+pub mod norm_laws;
 mod refusal;
 mod show;
 mod stream;
