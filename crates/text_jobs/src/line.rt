@@ -18,5 +18,5 @@ impl Numbers for Line {
 }
 
 /// The cut of an input of lines, which is never cut: its last line may lack its newline.
-#[derive(Clone, Copy, Debug, PartialEq, Eq)]
+#[derive(Clone, Copy)]
 pub enum NoCut {}
