@@ -46,26 +46,23 @@ pub record IsOther (kind : JobKind) : Type 0 where
   pub trial : kind ≢ Trial
 
 -- a job that no other call does is over packets
-is_pack : (kind : JobKind) → IsOther kind → IsPackKind kind
-is_pack Norm other = tt
-is_pack Check other = tt
-is_pack Show other = tt
-is_pack Merge other = tt
-is_pack Split other = tt
-is_pack Pad other = tt
-is_pack Apart other = other.apart refl
-is_pack Join other = other.join refl
-is_pack Extract other = other.extract refl
-is_pack Head other = other.head refl
-is_pack Send other = other.send refl
-is_pack Recv other = other.recv refl
-is_pack Replay other = other.replay refl
-is_pack Sdp other = other.sdp refl
-is_pack Make other = other.make refl
-is_pack Trial other = other.trial refl
-
 pub is_pack_kind : (kind : JobKind) → IsOther kind → IsPackKind kind
-is_pack_kind = is_pack
+is_pack_kind Norm other = tt
+is_pack_kind Check other = tt
+is_pack_kind Show other = tt
+is_pack_kind Merge other = tt
+is_pack_kind Split other = tt
+is_pack_kind Pad other = tt
+is_pack_kind Apart other = other.apart refl
+is_pack_kind Join other = other.join refl
+is_pack_kind Extract other = other.extract refl
+is_pack_kind Head other = other.head refl
+is_pack_kind Send other = other.send refl
+is_pack_kind Recv other = other.recv refl
+is_pack_kind Replay other = other.replay refl
+is_pack_kind Sdp other = other.sdp refl
+is_pack_kind Make other = other.make refl
+is_pack_kind Trial other = other.trial refl
 
 some_and : {T : Type 0} → (o : Option T) (P : T → Type 0) → IsSomeAnd o P → IsSome o
 some_and None P is = absurd is
