@@ -1,3 +1,4 @@
+mod StandardFacts
 pub mod EndLemmas
 pub mod FedLemmas
 pub mod LawLemmas

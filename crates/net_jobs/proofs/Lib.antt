@@ -11,5 +11,6 @@ pub mod MissingLemmas
 mod CaptureFacts
 pub mod ReportLemmas
 pub mod CountLemmas
+mod ReportAgain
 pub mod AgainLemmas
 pub mod FewLemmas

@@ -1,3 +1,4 @@
+mod StandardFacts
 pub mod RunLemmas
 pub mod MadeSizes
 pub mod MadeReached

@@ -276,8 +276,6 @@ returns-in-Last-clause-ran g c = λ before opens.
     (g.J.RecordJob.meaning hand.new.job) h.same c.end_of-in-Last.result c.end_of-in-Last.ensures close.result
     (close.ensures.closes went.kept went.stands)
 
--- ---- a sink that goes on to another one
-
 pub returns-in-Err-clause-onward : goal.returns-in-Err-clause-onward
 returns-in-Err-clause-onward g c = Onward-trans _ _ _ _ _ _ c.records.invariant.onward c.hand.ensures.onward
 
@@ -298,5 +296,5 @@ returns-in-Err-hand-clause-onward g c = Onward-trans _ _ _ _ _ _ c.records.invar
 
 pub returns-in-Last-clause-onward : goal.returns-in-Last-clause-onward
 returns-in-Last-clause-onward g c =
-    Onward-trans _ _ _ _ _ _
-    (Onward-trans _ _ _ _ _ _ c.records.invariant.onward c.hand-in-Last.ensures.onward) c.close-in-Last.ensures.onward
+    let handed = Onward-trans _ _ _ _ _ _ c.records.invariant.onward c.hand-in-Last.ensures.onward in
+    Onward-trans _ _ _ _ _ _ handed c.close-in-Last.ensures.onward
