@@ -1,5 +1,6 @@
 //! Packets with their answers.
-use crate::{Held, Packet, Rule, Tail, decode};
+use crate::{Held, Packet, Rule, Shape, Tail, decode};
+use opus_toc::Toc;
 use std::alloc::Global;
 use std::process::Abort;
 use std::test::Fail;
@@ -266,6 +267,41 @@ fn spelled_lengths_are_told(rt: HostRuntime) -> Result<(), Fail> {
         assert_eq!(rt; packet.lens().spelled(), want);
         let held = Held::copy(rt.alloc(), &packet)?;
         assert_eq!(rt; held.view().lens().spelled(), None);
+    }
+    Ok(())
+}
+
+// A code 2 packet of two frames, and the same frames in the canonical spelling, which is code 2 too.
+#[test]
+fn parts_and_frames_make_their_packet(rt: HostRuntime) -> Result<(), Fail> {
+    let whole = decode(&[0xFA, 1, 0xAA, 0xBB, 0xCC])?;
+    let shape = Shape {
+        code: 2,
+        vbr: false,
+        pad: 0,
+    };
+    let body = [0xAA, 0xBB, 0xCC];
+    let none = Tail::Bytes(&[]);
+    let parts = Packet::of_parts(Toc::new(31, false, 2), shape, 5, &body, &[1, 2], none);
+    let frames = Packet::of_frames(31, false, &body, &[1, 2]);
+    for packet in [&whole, &parts, &frames] {
+        assert_eq!(rt; spelling(packet), (2, false, 0, 5));
+        assert_eq!(rt; packet.count(), 2);
+        assert_eq!(rt; packet.frame(0), &body[..1]);
+        assert_eq!(rt; packet.frame(1), &body[1..]);
+        assert!(rt; tail_is(packet, &[]));
+        assert!(rt; packet.same_kind(&whole));
+    }
+    Ok(())
+}
+
+// Rows: a first byte, and whether it is of the kind of F8 (configuration 31, mono).
+#[test]
+fn a_kind_is_a_configuration_and_its_channels(rt: HostRuntime) -> Result<(), Fail> {
+    let one = decode(&[0xF8])?;
+    for (first, same) in [(0xF8, true), (0xF9, true), (0xFC, false), (0xF0, false)] {
+        let bytes = [first];
+        assert_eq!(rt; decode(&bytes)?.same_kind(&one), same);
     }
     Ok(())
 }
