@@ -5,6 +5,7 @@
 
 mod bytes;
 mod copy;
+mod endless;
 mod from_read;
 mod memory;
 mod no_memory;
@@ -19,6 +20,7 @@ mod to_write;
 mod whole;
 
 pub use bytes::Bytes;
+pub use endless::EndlessSource;
 pub use from_read::FromRead;
 pub use memory::{MemorySink, MemorySource};
 pub use no_memory::NoMemory;

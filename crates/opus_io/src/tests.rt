@@ -1,7 +1,7 @@
 //! What std and the memory at hand do, which no clause says.
 use crate::{
-    Bytes, Failed, FromRead, InStop, MemorySink, MemorySource, Reader, Sink, SinkStop, Source,
-    SteadySink, SteadySource, ToWrite, write_all,
+    Bytes, EndlessSource, Failed, FromRead, InStop, MemorySink, MemorySource, Reader, Sink,
+    SinkStop, Source, SteadySink, SteadySource, ToWrite, write_all,
 };
 use std::alloc::{AllocError, Global};
 use std::io;
@@ -108,6 +108,8 @@ fn memory_fails_at_the_calls_asked(rt: HostRuntime) -> Result<(), Fail> {
         assert_eq!(rt; source.read(&mut buf), want);
     }
     assert_eq!(rt; buf[0], b'b');
+    assert_eq!(rt; EndlessSource::new(7).read(&mut buf), Ok(4));
+    assert_eq!(rt; buf, [7; 4]);
     let thirty = [9; 30];
     let mut sink = MemorySink::new(alloc, 1, &[22])?;
     assert_eq!(rt; write_all(&mut sink, &thirty), Err(SinkStop::Failed));
