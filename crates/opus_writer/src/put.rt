@@ -2,7 +2,7 @@
 ghost use Rattle.opus_packet.specs.Tail.{IsKept, kept_bytes};
 ghost use Rattle.opus_packet.specs.Canonical.{canonical, canonical_self_delimited, kept_form, kept_self_delimited};
 ghost use Rattle.std.specs.Prelude.{◌++◌};
-ghost use Rattle.opus_io.specs.Sink.{SinkCause};
+ghost use Rattle.opus_io.specs.Sink.{SinkCause, Onward};
 ghost use Rattle.opus_writer.specs.Forms.{canonical_in, kept_in};
 ghost use Rattle.opus_writer.specs.Puts.{Puts};
 
@@ -20,6 +20,7 @@ pub fn put_canon<O: Sink>(packet: &Packet<'_>, sink: &mut O) -> Result<(), SinkS
         (canonical packet.now.value) result }
     ensures cause { SinkCause (O.faults sink.old) (O.faults sink.new)
         (O.refusals sink.old) (O.refusals sink.new) result }
+    ensures onward { Onward (O.onto sink.old) (O.onto sink.new) (O.handed sink.old) (O.handed sink.new) }
 {
     put_canon_in(packet, false, sink)
 }
@@ -31,6 +32,7 @@ pub fn put_canon_self<O: Sink>(packet: &Packet<'_>, sink: &mut O) -> Result<(), 
         (canonical_self_delimited packet.now.value) result }
     ensures cause { SinkCause (O.faults sink.old) (O.faults sink.new)
         (O.refusals sink.old) (O.refusals sink.new) result }
+    ensures onward { Onward (O.onto sink.old) (O.onto sink.new) (O.handed sink.old) (O.handed sink.new) }
 {
     put_canon_in(packet, true, sink)
 }
@@ -43,6 +45,7 @@ pub fn put_keep<O: Sink>(packet: &Packet<'_>, sink: &mut O) -> Result<(), SinkSt
         (kept_form packet.now.value (kept_bytes packet.now.tail)) result }
     ensures cause { SinkCause (O.faults sink.old) (O.faults sink.new)
         (O.refusals sink.old) (O.refusals sink.new) result }
+    ensures onward { Onward (O.onto sink.old) (O.onto sink.new) (O.handed sink.old) (O.handed sink.new) }
 {
     put_keep_in(packet, false, sink)
 }
@@ -55,6 +58,7 @@ pub fn put_keep_self<O: Sink>(packet: &Packet<'_>, sink: &mut O) -> Result<(), S
         (kept_self_delimited packet.now.value (kept_bytes packet.now.tail)) result }
     ensures cause { SinkCause (O.faults sink.old) (O.faults sink.new)
         (O.refusals sink.old) (O.refusals sink.new) result }
+    ensures onward { Onward (O.onto sink.old) (O.onto sink.new) (O.handed sink.old) (O.handed sink.new) }
 {
     put_keep_in(packet, true, sink)
 }
@@ -66,6 +70,7 @@ fn put_canon_in<O: Sink>(packet: &Packet<'_>, own: bool, sink: &mut O) -> Result
         (canonical_in own packet.now.value) result }
     ensures cause { SinkCause (O.faults sink.old) (O.faults sink.new)
         (O.refusals sink.old) (O.refusals sink.new) result }
+    ensures onward { Onward (O.onto sink.old) (O.onto sink.new) (O.handed sink.old) (O.handed sink.new) }
 {
     let mut header: ArrayVec<u8, 98> = ArrayVec::new();
     push_canon_in(packet, own, &mut header);
@@ -80,6 +85,7 @@ fn put_keep_in<O: Sink>(packet: &Packet<'_>, own: bool, sink: &mut O) -> Result<
         (kept_in own packet.now.value (kept_bytes packet.now.tail)) result }
     ensures cause { SinkCause (O.faults sink.old) (O.faults sink.new)
         (O.refusals sink.old) (O.refusals sink.new) result }
+    ensures onward { Onward (O.onto sink.old) (O.onto sink.new) (O.handed sink.old) (O.handed sink.new) }
 {
     let tail = tail_bytes(packet);
     let mut header: ArrayVec<u8, 360> = ArrayVec::new();
@@ -94,6 +100,7 @@ fn put_two<O: Sink>(first: &[u8], second: &[u8], sink: &mut O) -> Result<(), Sin
         (first.now ++ second.now) result }
     ensures cause { SinkCause (O.faults sink.old) (O.faults sink.new)
         (O.refusals sink.old) (O.refusals sink.new) result }
+    ensures onward { Onward (O.onto sink.old) (O.onto sink.new) (O.handed sink.old) (O.handed sink.new) }
 {
     write_all(sink, first)?;
     write_all(sink, second)
@@ -111,6 +118,7 @@ fn put_three<O: Sink>(
         (first.now ++ second.now ++ third.now) result }
     ensures cause { SinkCause (O.faults sink.old) (O.faults sink.new)
         (O.refusals sink.old) (O.refusals sink.new) result }
+    ensures onward { Onward (O.onto sink.old) (O.onto sink.new) (O.handed sink.old) (O.handed sink.new) }
 {
     put_two(first, second, sink)?;
     write_all(sink, third)

@@ -1,4 +1,5 @@
 use Rattle.std.proofs.Common.{◌++◌}
+use Rattle.opus_io.proofs.Onward.{Onward-trans}
 use Rattle.opus_writer.proofs.PutsLemmas.{Puts-then}
 use Rattle.opus_writer.proofs.put.put_three.Goals as goal
 
@@ -6,3 +7,6 @@ pub returns-clause-bytes : goal.returns-clause-bytes
 returns-clause-bytes g c =
     Puts-then (g.O.Sink.contents c.args.sink.now) (g.O.Sink.contents c.put_two.new.sink) (g.O.Sink.contents c.write_all.new.sink) (c.args.first.now ++ c.args.second.now) c.args.third.now c.write_all.result c.in_ok-put_two.ensures.bytes.ok
     (record { ok = c.write_all.ensures.ok; front = c.write_all.ensures.front })
+
+pub returns-clause-onward : goal.returns-clause-onward
+returns-clause-onward g c = Onward-trans _ _ _ _ _ _ c.put_two.ensures.onward c.write_all.ensures.onward
