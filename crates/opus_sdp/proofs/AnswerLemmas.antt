@@ -3,7 +3,7 @@ use Rattle.std.proofs.Common.{◌≡◌, ◌⊎◌, inl, inr, ℕ, Bool, true, L
 use Rattle.std.specs.Prelude.{codes}
 use Rattle.std.specs.Option.{option_or}
 use Rattle.opus_sdp.specs.Text.{is_line, trim}
-use Rattle.opus_sdp.specs.Number.{value_of}
+use Rattle.text_numbers.specs.Number.{value_of}
 use Rattle.opus_sdp.specs.Table.{same_name}
 use Rattle.opus_sdp.specs.Params.{fmtp_of}
 use Rattle.opus_sdp.specs.Parts.{parts_of, param_of}

@@ -4,7 +4,7 @@ use Rattle.std.proofs.Math.ListN.{set, length-set}
 use Rattle.std.proofs.lemmas.Grind.{get_or-set_at}
 use Rattle.std.proofs.lemmas.Bool.{cases_eq}
 use Rattle.std.proofs.lemmas.List.Folds.{list_any-append}
-use Rattle.opus_sdp.specs.Number.{value_of, is_number, number_within}
+use Rattle.text_numbers.specs.Number.{value_of, is_number, number_within}
 use Rattle.opus_sdp.specs.Table.{row_of, row_at, same_name, is_named, is_allowed}
 use Rattle.opus_sdp.specs.Params.{number, others}
 use Rattle.opus_sdp.specs.Parts.{Part, name_of, value_at, param_of}

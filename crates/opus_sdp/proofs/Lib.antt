@@ -6,7 +6,6 @@ pub mod PartsLemmas
 pub mod ReadLemmas
 pub mod TextLemmas
 pub mod TrimLemmas
-pub mod NumberLemmas
 pub mod SpelledLemmas
 pub mod PiecesLemmas
 pub mod LineLemmas

@@ -7,13 +7,14 @@ use Rattle.std.proofs.lemmas.Slice.Eq.{bytes_eq-Decides}
 use Rattle.std.proofs.lemmas.List.Folds.{length-prefix_len}
 use Rattle.std.proofs.lemmas.List.Splits.{join_with_byte-slice_split}
 use Rattle.opus_sdp.specs.Text.{is_blank, is_semicolon, is_line}
-use Rattle.opus_sdp.specs.Number.{value_of, is_payload_type}
+use Rattle.text_numbers.specs.Number.{value_of}
+use Rattle.opus_sdp.specs.PayloadType.{is_payload_type}
 use Rattle.opus_sdp.specs.Grammar.{is_apart, IsFmtpLine}
 use Rattle.opus_sdp.specs.Parts.{param_of}
 use Rattle.opus_sdp.specs.Fault.{begins_with, word_in, word_end, rest_in, front_fault, first_fault, parts_in, fmtp_fault}
 use Rattle.opus_sdp.specs.Reading.{fmtp_in}
 use Rattle.opus_sdp.specs.declared.fault.SdpFault.TheVariants.{Prefix, PayloadType}
-use Rattle.opus_sdp.proofs.NumberLemmas.{number_within-spelled}
+use Rattle.text_numbers.proofs.NumberLemmas.{number_within-spelled}
 use Rattle.opus_sdp.proofs.TextLemmas.{list_all-parts}
 use Rattle.opus_sdp.proofs.FoundLemmas.{or-none, found-pieces, split-passes, split-uncut}
 

@@ -7,14 +7,15 @@ use Rattle.std.specs.Option.{option_or}
 use Rattle.std.proofs.Math.Seq.{take-append_seam, drop-append_seam, drop-append-add}
 use Rattle.std.proofs.lemmas.Slice.Eq.{bytes_eq-Decides}
 use Rattle.opus_sdp.specs.Text.{is_blank}
-use Rattle.opus_sdp.specs.Number.{is_digit, value_of, is_payload_type}
+use Rattle.text_numbers.specs.Number.{is_digit, value_of}
+use Rattle.opus_sdp.specs.PayloadType.{is_payload_type}
 use Rattle.opus_sdp.specs.Params.{fmtp_of}
 use Rattle.opus_sdp.specs.Grammar.{is_apart, IsFmtpLine}
 use Rattle.opus_sdp.specs.Parts.{parts_of, param_of}
 use Rattle.opus_sdp.specs.Fault.{begins_with, word_in, word_end, rest_in, front_fault, first_fault, parts_in, fmtp_fault}
 use Rattle.opus_sdp.specs.Reading.{fmtp_in}
 use Rattle.opus_sdp.specs.declared.fmtp.Fmtp.{Fmtp}
-use Rattle.opus_sdp.proofs.NumberLemmas.{decimal-digits, value_of-decimal, number_within-decimal}
+use Rattle.text_numbers.proofs.NumberLemmas.{decimal-digits, value_of-decimal, number_within-decimal}
 use Rattle.opus_sdp.proofs.TextLemmas.{list_all_weaker, prefix_len-all, before_first-at, digit-no_blank}
 use Rattle.opus_sdp.proofs.PiecesLemmas.{read-params}
 

@@ -8,12 +8,12 @@ use Rattle.std.proofs.lemmas.Bool.{and_parts, and_from}
 use Rattle.std.proofs.lemmas.Bool.Decides.{nat_tests}
 use Rattle.std.proofs.lemmas.Slice.Eq.{bytes_eq-Decides}
 use Rattle.opus_sdp.specs.Text.{is_blank, is_line}
-use Rattle.opus_sdp.specs.Number.{is_digit}
+use Rattle.text_numbers.specs.Number.{is_digit}
 use Rattle.opus_sdp.specs.Table.{lowered}
 use Rattle.opus_sdp.specs.Grammar.{is_name_byte, is_value_byte, IsFmtpLine, IsRtpmapLine}
 use Rattle.opus_sdp.specs.declared.fmtp.Fmtp.{Fmtp}
 use Rattle.opus_sdp.specs.declared.fmtp.Rtpmap.{Rtpmap}
-use Rattle.opus_sdp.proofs.NumberLemmas.{decimal-digits}
+use Rattle.text_numbers.proofs.NumberLemmas.{decimal-digits}
 use Rattle.opus_sdp.proofs.TextLemmas.{list_all_weaker, list_all-both, blank-no_newline}
 use Rattle.opus_sdp.proofs.PiecesLemmas.{pieces-pass}
 

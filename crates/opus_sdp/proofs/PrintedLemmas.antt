@@ -4,14 +4,14 @@ use Rattle.std.specs.List.{list_all}
 use Rattle.std.specs.Fmt.{decimal}
 use Rattle.std.proofs.lemmas.Bool.{and_parts, and_from, or_from, lt-ltb, ltb-true, ne_eqb, false_from_ne_true}
 use Rattle.std.proofs.lemmas.List.Folds.{list_any-append}
-use Rattle.opus_sdp.specs.Number.{number_within}
+use Rattle.text_numbers.specs.Number.{number_within}
 use Rattle.opus_sdp.specs.Table.{Row, table, row_at, row_of, same_name, is_named, is_allowed}
 use Rattle.opus_sdp.specs.Params.{number}
 use Rattle.opus_sdp.specs.Grammar.{AreAllowed}
 use Rattle.opus_sdp.specs.Printed.{numbers_of, printed_params, AreOthers, IsFmtp}
 use Rattle.opus_sdp.specs.declared.param.Param.{Param}
 use Rattle.opus_sdp.specs.declared.fmtp.Fmtp.{Fmtp}
-use Rattle.opus_sdp.proofs.NumberLemmas.{number_within-decimal}
+use Rattle.text_numbers.proofs.NumberLemmas.{number_within-decimal}
 use Rattle.opus_sdp.proofs.TableLemmas.{row_of-same, is_allowed-row, is_allowed-other}
 use Rattle.opus_sdp.proofs.ParamsLemmas.{is_named-known}
 use Rattle.opus_sdp.proofs.RowsLemmas.{AreRows, FitRows, row_params, printed, table-rows, value-fits}

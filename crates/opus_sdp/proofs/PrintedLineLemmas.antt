@@ -5,7 +5,7 @@ use Rattle.std.specs.List.{filter_map, join_with_byte}
 use Rattle.std.specs.Fmt.{decimal}
 use Rattle.std.proofs.lemmas.Bool.{and_from, le-leb, eq-eqb}
 use Rattle.opus_sdp.specs.Text.{is_blank, trim_end}
-use Rattle.opus_sdp.specs.Number.{is_digit}
+use Rattle.text_numbers.specs.Number.{is_digit}
 use Rattle.opus_sdp.specs.Table.{Row, table, row_of}
 use Rattle.opus_sdp.specs.Params.{number, others, fmtp_of}
 use Rattle.opus_sdp.specs.Grammar.{are_blank, is_name, is_value_byte, IsValue, SpellsParam, AreSpelled, SpellsParams, IsFmtpLine, IsRtpmapLine}
@@ -13,7 +13,7 @@ use Rattle.opus_sdp.specs.Printed.{flag_number, numbers_of, printed_params, para
 use Rattle.opus_sdp.specs.declared.param.Param.{Param}
 use Rattle.opus_sdp.specs.declared.fmtp.Fmtp.{Fmtp}
 use Rattle.opus_sdp.specs.declared.fmtp.Rtpmap.{Rtpmap}
-use Rattle.opus_sdp.proofs.NumberLemmas.{decimal-digits}
+use Rattle.text_numbers.proofs.NumberLemmas.{decimal-digits}
 use Rattle.opus_sdp.proofs.TextLemmas.{list_all_weaker, digit-no_blank, digit-value}
 use Rattle.opus_sdp.proofs.SpelledLemmas.{trim_end-full, trim_start-full}
 use Rattle.opus_sdp.proofs.ValueLemmas.{AreWritten}

@@ -3,14 +3,14 @@ use Rattle.std.proofs.Common.{◌≡◌, ◌≢◌, ◌<◌, ◌≤◌, ◌^◌,
 use Rattle.std.specs.List.{filter_map, zip, list_all}
 use Rattle.std.specs.Fmt.{decimal}
 use Rattle.std.proofs.lemmas.Bool.{and_parts, and_from, eq-eqb, ne_eqb, le-leb, leb-true}
-use Rattle.opus_sdp.specs.Number.{value_of}
+use Rattle.text_numbers.specs.Number.{value_of}
 use Rattle.opus_sdp.specs.Table.{Row, table, row_at, row_of}
 use Rattle.opus_sdp.specs.Params.{number, others}
 use Rattle.opus_sdp.specs.Grammar.{is_name}
 use Rattle.opus_sdp.specs.Printed.{flag_number, row_param, numbers_of, IsFmtp}
 use Rattle.opus_sdp.specs.declared.param.Param.{Param}
 use Rattle.opus_sdp.specs.declared.fmtp.Fmtp.{Fmtp}
-use Rattle.opus_sdp.proofs.NumberLemmas.{value_of-decimal}
+use Rattle.text_numbers.proofs.NumberLemmas.{value_of-decimal}
 
 -- the rows from an index on
 

@@ -9,7 +9,7 @@ use Rattle.std.proofs.lemmas.Bool.{and_parts, and_from, both_ways, not-true}
 use Rattle.std.proofs.lemmas.Bool.Decides.{nat_tests}
 use Rattle.std.proofs.lemmas.Slice.Eq.{bytes_eq-Decides}
 use Rattle.opus_sdp.specs.Text.{is_blank, trim_start, trim_end, trim}
-use Rattle.opus_sdp.specs.Number.{value_of}
+use Rattle.text_numbers.specs.Number.{value_of}
 use Rattle.opus_sdp.specs.Table.{lowered, same_name}
 use Rattle.opus_sdp.specs.Grammar.{are_blank, is_apart, IsRtpmapLine}
 use Rattle.opus_sdp.specs.Fault.{word_in, word_end, rest_in, front_fault, codec_fault, rtpmap_fault}

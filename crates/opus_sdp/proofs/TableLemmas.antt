@@ -8,7 +8,7 @@ use Rattle.std.proofs.lemmas.Slice.Eq.{bytes_eq-Decides}
 use Rattle.std.proofs.lemmas.Cmp.{on_equiv, nat_list_eq_equiv}
 use Rattle.std.proofs.lemmas.Option.{slice_get-get_or, slice_get_past}
 use Rattle.std.proofs.lemmas.Bool.{false_from_ne_true, cases_Bool, eq-eqb, ne_eqb, both_ways}
-use Rattle.opus_sdp.specs.Number.{number_within}
+use Rattle.text_numbers.specs.Number.{number_within}
 use Rattle.opus_sdp.specs.Table.{row, table, row_at, row_of, lowered, same_name, is_allowed}
 
 pub length-table : length table ≡ 8

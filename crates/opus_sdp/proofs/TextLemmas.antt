@@ -6,7 +6,7 @@ use Rattle.std.proofs.lemmas.Bool.{and_parts, and_from, cond-true, cond-false, n
 use Rattle.std.proofs.lemmas.Bool.Decides.{nat_tests}
 use Rattle.std.proofs.lemmas.List.Folds.{list_all-append}
 use Rattle.opus_sdp.specs.Text.{is_blank, is_semicolon, is_equals}
-use Rattle.opus_sdp.specs.Number.{is_digit}
+use Rattle.text_numbers.specs.Number.{is_digit}
 use Rattle.opus_sdp.specs.Grammar.{is_name_byte, is_value_byte}
 
 pub list_all_weaker : (p q : ℕ → Bool) → ((b : ℕ) → p b ≡ true → q b ≡ true) → (text : List ℕ)

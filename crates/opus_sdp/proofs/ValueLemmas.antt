@@ -3,14 +3,14 @@ use Rattle.std.proofs.Common.{◌≡◌, ◌<◌, ◌≤◌, ◌^◌, ℕ, Bool,
 use Rattle.std.specs.List.{filter_map}
 use Rattle.std.proofs.lemmas.Bool.{eqb-true, eqb-false}
 use Rattle.std.proofs.lemmas.List.Sums.{prefix_len-le-length}
-use Rattle.opus_sdp.specs.Number.{value_of}
+use Rattle.text_numbers.specs.Number.{value_of}
 use Rattle.opus_sdp.specs.Table.{table, row_at, row_of, same_name, is_named, is_allowed}
 use Rattle.opus_sdp.specs.Params.{number, others, fmtp_of}
 use Rattle.opus_sdp.specs.Grammar.{is_name, IsValue, AreSpelled, AreAllowed, IsFmtpLine}
 use Rattle.opus_sdp.specs.Printed.{AreOthers, IsFmtp}
 use Rattle.opus_sdp.specs.declared.param.Param.{Param}
 use Rattle.opus_sdp.specs.declared.fmtp.Fmtp.{Fmtp}
-use Rattle.opus_sdp.proofs.NumberLemmas.{number_within-spelled}
+use Rattle.text_numbers.proofs.NumberLemmas.{number_within-spelled}
 use Rattle.opus_sdp.proofs.TableLemmas.{length-table, is_allowed-row}
 use Rattle.opus_sdp.proofs.ParamsLemmas.{is_named-other, others-known, others-other}
 

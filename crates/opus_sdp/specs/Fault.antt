@@ -4,7 +4,7 @@ use Rattle.std.specs.List.{position_or_len, before_first}
 use Rattle.std.specs.Option.{option_or}
 use Rattle.std.specs.Str.{bytes_eq}
 use Rattle.opus_sdp.specs.Text.{is_blank, is_equals, trim}
-use Rattle.opus_sdp.specs.Number.{is_payload_type}
+use Rattle.opus_sdp.specs.PayloadType.{is_payload_type}
 use Rattle.opus_sdp.specs.Table.{same_name, is_named, is_allowed}
 use Rattle.opus_sdp.specs.Grammar.{is_name}
 use Rattle.opus_sdp.specs.Parts.{Part, parts_of, name_of, value_at, param_of}

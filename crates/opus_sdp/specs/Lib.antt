@@ -1,5 +1,5 @@
 pub mod Text
-pub mod Number
+pub mod PayloadType
 pub mod Table
 pub mod Params
 pub mod Grammar

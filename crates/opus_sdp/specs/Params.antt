@@ -1,6 +1,6 @@
 -- What the parameters of a line say together.
 use Rattle.std.specs.Prelude.{ℕ, ◌==◌, Bool, List, find, filter, Option, option_map}
-use Rattle.opus_sdp.specs.Number.{value_of}
+use Rattle.text_numbers.specs.Number.{value_of}
 use Rattle.opus_sdp.specs.Table.{row_of}
 use Rattle.opus_sdp.specs.declared.fmtp.Fmtp.{Fmtp}
 use Rattle.opus_sdp.specs.declared.param.Param.{Param}

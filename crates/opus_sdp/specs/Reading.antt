@@ -1,6 +1,6 @@
 -- What a line says in which there is no fault.
 use Rattle.std.specs.Prelude.{List, ℕ, map}
-use Rattle.opus_sdp.specs.Number.{value_of}
+use Rattle.text_numbers.specs.Number.{value_of}
 use Rattle.opus_sdp.specs.Params.{fmtp_of}
 use Rattle.opus_sdp.specs.Parts.{param_of}
 use Rattle.opus_sdp.specs.Fault.{word_in, parts_in}

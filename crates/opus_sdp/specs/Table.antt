@@ -5,7 +5,7 @@ use Rattle.std.specs.List.{list_any, position_or_len, slice_index_or}
 use Rattle.std.specs.Option.{option_map_or}
 use Rattle.std.specs.Char.{to_ascii_lowercase}
 use Rattle.std.specs.Str.{bytes_eq}
-use Rattle.opus_sdp.specs.Number.{number_within}
+use Rattle.text_numbers.specs.Number.{number_within}
 use Rattle.opus_sdp.specs.declared.param.Param.{Param}
 
 -- a known name in small letters, and the numbers that it allows

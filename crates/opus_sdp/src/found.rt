@@ -7,13 +7,13 @@ ghost use Rattle.opus_sdp.specs.Params.{fmtp_of};
 ghost use Rattle.opus_sdp.specs.declared.param.Param.{Param};
 
 use crate::names::Names;
-use crate::number::read_number;
 use crate::table::{ROWS, Row, row_of};
 use crate::text::{blanks, trim_end};
 use crate::written::Written;
 use crate::{Fmtp, Param, Params, SdpFault};
 use opus_io::{Bytes, NoMemory};
 use std::alloc::Global;
+use text_numbers::read_number;
 
 /// The parameters in front of a place in a line.
 #[derive(Drop)]

@@ -6,7 +6,6 @@ mod fmtp;
 mod found;
 pub mod laws;
 mod names;
-mod number;
 mod param;
 mod read;
 mod table;

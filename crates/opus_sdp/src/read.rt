@@ -1,7 +1,7 @@
 //! Reading the two lines.
 ghost use Rattle.std.specs.Prelude.{◌≡◌, ◌⊎◌, ◌+◌, ◌^◌, ◌<◌, ◌≤◌, true, None, Some, Ok, Err, [], map, length, codes, IsTrue, IfOk, IfErr};
 ghost use Rattle.opus_sdp.specs.Text.{is_line, trim};
-ghost use Rattle.opus_sdp.specs.Number.{value_of};
+ghost use Rattle.text_numbers.specs.Number.{value_of};
 ghost use Rattle.opus_sdp.specs.Table.{same_name};
 ghost use Rattle.opus_sdp.specs.Params.{fmtp_of};
 ghost use Rattle.opus_sdp.specs.Parts.{parts_of, param_of};
@@ -12,10 +12,10 @@ ghost use Rattle.opus_sdp.specs.declared.fmtp.Fmtp.{Fmtp};
 ghost use Rattle.opus_sdp.specs.declared.fmtp.Rtpmap.{Rtpmap};
 
 use crate::found::Found;
-use crate::number::read_number;
 use crate::text::{blanks, trim_end, until, until_blank};
 use crate::{Fmtp, Rtpmap, SdpFault};
 use std::alloc::Global;
+use text_numbers::read_number;
 
 // The payload type behind these first bytes of a line, and where its digits end.
 fn read_front(line: &[u8], front: &[u8]) -> Result<(u8, usize), SdpFault>

@@ -13,7 +13,7 @@ use Rattle.opus_words.specs.CommandLine.{command_app, line_of}
 use Rattle.opus_words.specs.Fit.{IsBetween, IsFit, IsFormFor, IsNumberFor, IsPaddingFor, number_at}
 use Rattle.opus_words.specs.Jobs.{form_name, form_within, forms_of, has_own_stream, is_form}
 use Rattle.opus_words.specs.Jobs.{is_self_of_many}
-use Rattle.opus_words.specs.Number.{is_number, number_within, value_of}
+use Rattle.text_numbers.specs.Number.{is_number, number_within, value_of}
 use Rattle.opus_words.specs.Options.{lack_of, options, row_of}
 use Rattle.opus_words.specs.Paddings.{padding_named}
 use Rattle.opus_words.specs.Words.{first_fault, form_from, is_foreign, is_missing, is_need, is_unfit}

@@ -4,7 +4,6 @@ use Rattle.std.specs.Prelude.{Ok, Err}
 use Rattle.clap.specs.Words.{Row}
 use Rattle.clap.specs.declared.builder.value_parser.Reading.TheVariants.{AsWritten}
 use Rattle.opus_words.specs.Jobs.{kind_named, form_within}
-use Rattle.opus_words.specs.Number.{number_within}
 use Rattle.opus_words.specs.Options.{lack_of}
 use Rattle.opus_words.specs.Words.{judged, job_with}
 use Rattle.opus_words.specs.declared.fault.UsageKind.TheVariants as usage
@@ -12,29 +11,6 @@ use Rattle.opus_words.specs.declared.form.Form.TheVariants.{Raw}
 use Rattle.opus_words.specs.declared.kind.JobKind.TheVariants.{Norm, Check, Pad, Extract, Send}
 use Rattle.opus_words.specs.declared.option.Opt.TheVariants as opt
 use Rattle.opus_words.specs.declared.table.Lack.TheVariants.{Number}
-
--- ---- numbers
-
-nothing_is_no_number : number_within 0 127 [] ≡ None
-nothing_is_no_number = refl
-
-zero_stands_alone : number_within 0 127 (codes "0") ≡ Some 0
-zero_stands_alone = refl
-
-a_leading_zero_is_refused : number_within 0 127 (codes "01") ≡ None
-a_leading_zero_is_refused = refl
-
-a_sign_is_refused : number_within 0 127 (codes "+1") ≡ None
-a_sign_is_refused = refl
-
-the_greatest_is_taken : number_within 0 127 (codes "127") ≡ Some 127
-the_greatest_is_taken = refl
-
-one_above_is_refused : number_within 0 127 (codes "128") ≡ None
-one_above_is_refused = refl
-
-one_below_is_refused : number_within 1 48 (codes "0") ≡ None
-one_below_is_refused = refl
 
 -- ---- names
 

@@ -1,4 +1,3 @@
-pub mod Number
 pub mod Jobs
 pub mod Paddings
 pub mod Options

@@ -10,7 +10,7 @@ use Rattle.clap.specs.Words.{Row, first_of, matches_of}
 use Rattle.opus_words.specs.CommandLine.{command_app, line_of}
 use Rattle.opus_words.specs.Jobs.{form_within, forms_of, has_own_stream, is_self_of_many}
 use Rattle.opus_words.specs.Jobs.{kind_named}
-use Rattle.opus_words.specs.Number.{number_within}
+use Rattle.text_numbers.specs.Number.{number_within}
 use Rattle.opus_words.specs.Options.{lack_of, option_name, options, row_of}
 use Rattle.opus_words.specs.Paddings.{first_padding, padding_named}
 use Rattle.opus_feed.specs.declared.padding.Padding.{Padding}

@@ -10,7 +10,6 @@ mod job;
 mod kind;
 pub mod laws;
 mod matched;
-mod number;
 mod option;
 mod padding;
 mod table;

@@ -11,12 +11,12 @@ use crate::command::JOB;
 use crate::form::Form;
 use crate::job::Job;
 use crate::kind::JobKind;
-use crate::number::read_number;
 use crate::option::Opt;
 use crate::padding::{first_padding, padding_named};
 use crate::table::{Lack, Row, Values};
 use clap::ArgMatches;
 use opus_feed::Padding;
+use text_numbers::read_number;
 
 /// The job that JOB names.
 pub(crate) fn kind(matches: &ArgMatches<'_>) -> Option<JobKind>
@@ -141,7 +141,7 @@ impl Values {
     {
         match self {
             Values::Forms => kind.form_named(text).is_some(),
-            Values::Numbers(least, most) => read_number(text, least, most).is_some(),
+            Values::Numbers(least, most) => read_number(text.as_bytes(), least, most).is_some(),
             Values::Paddings => padding_named(text).is_some(),
         }
     }
@@ -152,7 +152,7 @@ impl Values {
     {
         match self {
             Values::Forms => None,
-            Values::Numbers(least, most) => read_number(text, least, most),
+            Values::Numbers(least, most) => read_number(text.as_bytes(), least, most),
             Values::Paddings => None,
         }
     }

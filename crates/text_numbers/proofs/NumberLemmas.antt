@@ -5,9 +5,9 @@ use Rattle.std.specs.List.{list_all}
 use Rattle.std.proofs.lemmas.Bool.{and_parts, and_from, and_left, and_cases, cond-true, not-true, not_from_false, le-leb, leb-true, ltb-false, ne_eqb, eqb-false, cases_eq}
 use Rattle.std.proofs.lemmas.Str.Parse.{IsNumeralModel, numerals_by_fold}
 use Rattle.std.proofs.lemmas.Fmt.{digits_decimal, digits_value-decimal, decimal_nonempty, decimal_digit, first_decimal, decimal-digits_value}
-use Rattle.opus_sdp.specs.Number.{is_digit, is_padded, is_number, value_of, number_within}
+use Rattle.text_numbers.specs.Number.{is_digit, is_padded, is_number, value_of, number_within}
 
-own : IsNumeralModel (λ ds. list_all is_digit ds ≡ true) (λ ds. value_of ds)
+pub own : IsNumeralModel (λ ds. list_all is_digit ds ≡ true) (λ ds. value_of ds)
 own = numerals_by_fold _ (search rules) (λ m ds. fold (λ n c. n * 10 + (c - 48)) m ds) (search rules)
 
 -- the digits of a number
