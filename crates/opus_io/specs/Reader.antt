@@ -33,7 +33,7 @@ pub record Fits (room start end last passed limit : ℕ) : Type 0 where
   pub one_past : passed + (end - start) ≤ limit + 1
   pub most : limit ≤ max_input
 
--- a look ahead passes nothing, loses nothing, and leaves kept bytes alone
+-- a look ahead passes nothing, loses nothing, and leaves kept bytes alone; where it read, what was passed last is gone
 pub record Stays (old new : ReaderState) (left left' : Option (List ℕ)) : Type 0 where
   pub passed : new.passed ≡ old.passed
   pub limit : new.limit ≡ old.limit
@@ -42,6 +42,7 @@ pub record Stays (old new : ReaderState) (left left' : Option (List ℕ)) : Type
   pub in_buffer : length new.bytes ≤ 4096
   pub in_limit : new.passed ≤ new.limit
   pub one_past : new.passed + length new.bytes ≤ new.limit + 1
+  pub last : old.bytes ≡ [] → new.last ≡ []
 
 -- the reader keeps a byte, or the source is at its end, or a read failed
 pub record Filled (old new : ReaderState) (left left' : Option (List ℕ))

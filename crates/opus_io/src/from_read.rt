@@ -1,5 +1,9 @@
 //! A reader of std as a source.
-ghost use Rattle.std.specs.Prelude.{◌≡◌, ◌+◌, ◌-◌, ◌^◌, ◌≤◌, min};
+ghost use Rattle.std.specs.Prelude.{◌≡◌, ◌<◌, length, OnErr};
+ghost use Rattle.std.specs.Io.{ReadsAtMost};
+ghost use Rattle.std.specs.Io.KnownBytes.{ReadConsumes};
+ghost use Rattle.opus_io.specs.Cause.{next_count};
+ghost use Rattle.opus_io.specs.Source.{SourceCause};
 ghost use Rattle.opus_io.specs.FromRead.{inner_reader, read_errors};
 
 use crate::{Failed, Source};
@@ -27,7 +31,13 @@ impl<R: Read> Source for FromRead<R> {
 
     ghost faults = { read_errors };
 
-    fn read(&mut self, buf: &mut [u8]) -> Result<usize, Failed> {
+    fn read(&mut self, buf: &mut [u8]) -> Result<usize, Failed>
+        requires { 0 < length buf.old }
+        ensures count { ReadsAtMost result buf.new }
+        ensures bytes { ReadConsumes (R.remaining (inner_reader self.old)) (R.remaining (inner_reader self.new)) result buf.new }
+        ensures cause { SourceCause (read_errors self.old) (read_errors self.new) result }
+        ensures counted { OnErr result (read_errors self.new ≡ next_count (read_errors self.old)) }
+    {
         match self.inner.read(buf) {
             Ok(count) => Ok(count),
             Err(_) => {
