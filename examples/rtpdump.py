@@ -1,0 +1,11 @@
+#!/usr/bin/env python3
+"""Turns the lines of `tshark -T fields -e frame.time_relative -e udp.payload` into an rtpdump capture."""
+import struct
+import sys
+
+out = sys.stdout.buffer
+out.write(b"#!rtpplay1.0 0.0.0.0/0\n" + bytes(16))
+for line in sys.stdin:
+    time, payload = line.split()
+    packet = bytes.fromhex(payload)
+    out.write(struct.pack(">HHI", len(packet) + 8, len(packet), int(float(time) * 1000)) + packet)
