@@ -1,5 +1,9 @@
 #!/usr/bin/env python3
-"""Turns the lines of `tshark -T fields -e frame.time_relative -e udp.payload` into an rtpdump capture."""
+"""Turns lines of tshark, a time and a UDP payload each, into an rtpdump capture.
+
+tshark -r in.pcap -Y 'udp.dstport == 5004' -T fields -e frame.time_relative -e udp.payload |
+    python3 examples/rtpdump.py > in.rtpdump
+"""
 import struct
 import sys
 
