@@ -6,8 +6,9 @@ pub mod StandardFacts
 pub mod RawLemmas
 pub mod ShowsLemmas
 pub mod FramedLemmas
+pub mod StoreFronts
+pub mod StoreSteps
+pub mod StoreHeads
+pub mod StorePayloads
 pub mod DemoFronts
-pub mod DemoSteps
-pub mod DemoPayloads
-pub mod DemoHeads
 mod DemoFacts

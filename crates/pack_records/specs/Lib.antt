@@ -12,7 +12,13 @@ pub mod Raw
 pub mod RawLaws
 pub mod Framed
 pub mod FramedLaws
+pub mod Payloads
+pub mod Stores
+pub mod StoreRests
+pub mod StoreLaws
+pub mod StoreStands
+pub mod Undelimited
+pub mod UndelimitedLaws
 pub mod Demo
 pub mod DemoForm
 pub mod DemoRests
-pub mod DemoLaws

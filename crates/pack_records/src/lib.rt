@@ -14,15 +14,21 @@ mod framed;
 mod item;
 pub mod laws;
 mod lent;
+mod payload;
 mod pieces;
 mod raw;
+mod store;
 mod taken;
 #[cfg(test)]
 mod tests;
+mod undelimited;
 
 pub use cut::Cut;
 pub use demo::DemoForm;
 pub use framed::SelfForm;
 pub use item::{Found, Item};
 pub use lent::lent_packet;
+pub use payload::PayloadReader;
 pub use raw::RawForm;
+pub use store::Store;
+pub use undelimited::Undelimited;

@@ -1,16 +1,14 @@
 use Rattle.std.proofs.Common.{◌≡◌, ◌+◌, ◌<◌, ◌^◌, [], ◌++◌, length, take, refl, sym, ap, ◌∙◌, subst, length-take-le, take-take, arith, rules}
-use Rattle.job_loop.specs.Shown.{Shown}
 use Rattle.job_loop.specs.Forms.{HasFed}
 use Rattle.opus_packet.proofs.BytesLemmas.{AreBytes-from, AreBytes-take}
 use Rattle.rec_store.specs.DemoStore.{demo_head}
-use Rattle.pack_records.specs.declared.item.Item.{Item}
-use Rattle.pack_records.specs.Pieces.{shown_by}
-use Rattle.pack_records.specs.DemoForm.{DemoStands}
-use Rattle.pack_records.proofs.DemoHeads.{here_fed, head_fed, same_on}
-use Rattle.pack_records.proofs.demo.DemoForm.front.Goals as goal
+use Rattle.pack_records.specs.StoreStands.{StoreStands}
+use Rattle.pack_records.proofs.StoreHeads.{here_fed, head_fed}
+use Rattle.pack_records.proofs.store.Store.front.Goals as goal
 
 pub returns-then-lies-clause-fed : goal.returns-then-lies-clause-fed
-returns-then-lies-clause-fed c = λ h rs stands size.
+returns-then-lies-clause-fed g c = λ h rs stands size.
+    let m = g.P.PayloadReader.reads in
     let s = c.args.self.now in
     let new = c.lies.new.self in
     let head = c.head_of-head.result in
@@ -23,16 +21,16 @@ returns-then-lies-clause-fed c = λ h rs stands size.
     c.head_of-head.ensures ∙ sym (take-take 8 count piece (omega arith)) in
     let len_fits : head.len < 2 ^ 32 = search rules in
     let range_fits : head.range < 2 ^ 32 = search rules in
-    let fed = here_fed s new own h rs (c.args.at + 8) head.len head.range c.requires.mode c.requires.none
-    (AreBytes-take count piece (AreBytes-from piece (λ i. (c.type_inv.piece i).fits))) c.lies.ensures.mode
+    let fed = here_fed m g.met.P.PayloadReader.lawful s new own h rs (c.args.at + 8) head.len head.range c.requires.mode
+    c.requires.none (AreBytes-take count piece (AreBytes-from piece (λ i. (c.type_inv.piece i).fits))) c.lies.ensures.mode
     c.lies.ensures.kept c.lies.ensures.same front taken (lies.some refl) len_fits range_fits (omega (arith, size))
-    (lies.packet refl) stands in
+    (lies.here refl) stands in
     (fed.0, fed.1 ∙ omega (arith, size, taken))
 
 pub returns-clause-fed : goal.returns-clause-fed
-returns-clause-fed c = λ h rs stands size.
+returns-clause-fed g c = λ h rs stands size.
+    let m = g.P.PayloadReader.reads in
     let s = c.args.self.now in
-    let mid = c.lies.new.self in
     let new = c.begin-whole.new.self in
     let head = c.head_of-head.result in
     let piece = c.args.piece.now in
@@ -44,9 +42,9 @@ returns-clause-fed c = λ h rs stands size.
     let range_fits : head.range < 2 ^ 32 = search rules in
     let none : new.head.items ≡ [] =
     ap (λ a. a.items) (c.begin-whole.ensures.head ∙ c.lies.ensures.kept) ∙ c.requires.none in
-    subst (λ n. HasFed (DemoStands new) (λ (r : Shown Item). r.item.place) (shown_by new.pieces own)
-    c.begin-whole.result h rs own n) (omega (arith, size, taken))
-    (head_fed s new own h rs (c.args.at + 8) head.len head.range c.begin-whole.result c.requires.mode
-    (AreBytes-take 8 piece (AreBytes-from piece (λ i. (c.type_inv.piece i).fits))) is len_fits range_fits none
-    (same_on s.pieces mid.pieces new.pieces c.lies.ensures.same c.begin-whole.ensures.same) (omega (arith, size, taken))
-    c.begin-whole.ensures.lost c.begin-whole.ensures.open stands)
+    subst (λ n. HasFed (StoreStands m new) m.place (m.current new.payload own) c.begin-whole.result h rs own n)
+    (omega (arith, size, taken))
+    (head_fed m g.met.P.PayloadReader.lawful s new own h rs (c.args.at + 8) head.len head.range c.begin-whole.result
+    c.requires.mode (AreBytes-take 8 piece (AreBytes-from piece (λ i. (c.type_inv.piece i).fits))) is len_fits range_fits
+    none (c.begin-whole.ensures.same ∙ c.lies.ensures.same) (omega (arith, size, taken)) c.begin-whole.ensures.lost
+    c.begin-whole.ensures.open stands)

@@ -1,25 +1,23 @@
 use Rattle.std.proofs.Common.{◌≡◌, ◌+◌, ◌<◌, ◌^◌, [], ◌++◌, length, take, refl, sym, ap, ◌∙◌, subst, length-take-le, arith, rules}
-use Rattle.job_loop.specs.Shown.{Shown}
 use Rattle.job_loop.specs.Forms.{HasFed}
 use Rattle.opus_packet.proofs.BytesLemmas.{AreBytes-from, AreBytes-take}
 use Rattle.rec_store.specs.DemoStore.{demo_head}
-use Rattle.pack_records.specs.declared.item.Item.{Item}
-use Rattle.pack_records.specs.Pieces.{shown_by}
-use Rattle.pack_records.specs.DemoForm.{DemoStands}
-use Rattle.pack_records.proofs.DemoHeads.{head_part, head_fed}
-use Rattle.pack_records.proofs.demo.DemoForm.more_head.Goals as goal
+use Rattle.pack_records.specs.StoreStands.{StoreStands}
+use Rattle.pack_records.proofs.StoreHeads.{head_part, head_fed}
+use Rattle.pack_records.proofs.store.Store.more_head.Goals as goal
 
 pub returns-then-len-lt8-clause-fed : goal.returns-then-len-lt8-clause-fed
-returns-then-len-lt8-clause-fed c = λ h rs stands size.
+returns-then-len-lt8-clause-fed g c = λ h rs stands size.
     let s = c.args.self.now in
     let piece = c.args.piece.now in
     let count = c.min-count.result in
     let items = rw c.unwrap.ensures at c.try_extend_from_slice.ensures.ok in
-    head_part s _ (take count piece) h rs c.requires.mode
+    head_part g.P.PayloadReader.reads s _ (take count piece) h rs c.requires.mode
     (AreBytes-take count piece (AreBytes-from piece (λ i. (c.type_inv.piece i).fits))) refl refl items stands
 
 pub returns-clause-fed : goal.returns-clause-fed
-returns-clause-fed c = λ h rs stands size.
+returns-clause-fed g c = λ h rs stands size.
+    let m = g.P.PayloadReader.reads in
     let s = c.args.self.now in
     let new = c.begin-whole.new.self in
     let head = c.head_of-head.result in
@@ -34,8 +32,8 @@ returns-clause-fed c = λ h rs stands size.
     let len_fits : head.len < 2 ^ 32 = search rules in
     let range_fits : head.range < 2 ^ 32 = search rules in
     let none : new.head.items ≡ [] = ap (λ a. a.items) c.begin-whole.ensures.head ∙ c.clear.ensures in
-    subst (λ n. HasFed (DemoStands new) (λ (r : Shown Item). r.item.place) (shown_by new.pieces own)
-    c.begin-whole.result h rs own n) (omega (arith, size, taken))
-    (head_fed s new own h rs (c.args.at + count) head.len head.range c.begin-whole.result c.requires.mode
-    (AreBytes-take count piece (AreBytes-from piece (λ i. (c.type_inv.piece i).fits))) is len_fits range_fits none
-    c.begin-whole.ensures.same (omega (arith, size, taken)) c.begin-whole.ensures.lost c.begin-whole.ensures.open stands)
+    subst (λ n. HasFed (StoreStands m new) m.place (m.current new.payload own) c.begin-whole.result h rs own n)
+    (omega (arith, size, taken))
+    (head_fed m g.met.P.PayloadReader.lawful s new own h rs (c.args.at + count) head.len head.range c.begin-whole.result
+    c.requires.mode (AreBytes-take count piece (AreBytes-from piece (λ i. (c.type_inv.piece i).fits))) is len_fits range_fits
+    none c.begin-whole.ensures.same (omega (arith, size, taken)) c.begin-whole.ensures.lost c.begin-whole.ensures.open stands)
