@@ -4,6 +4,3 @@ pub mod LentLemmas
 pub mod TakenLemmas
 pub mod RawLemmas
 pub mod DemoFronts
-pub mod DemoSteps
-pub mod DemoHeads
-pub mod DemoPayloads

@@ -31,16 +31,17 @@ use Rattle.opus_multi.proofs.TurnLemmas.{reading_answer}
 use Rattle.opus_multi.proofs.WriteLemmas.{forms_push, forms_map}
 use Rattle.pack_records.specs.Early.{IsEarly}
 use Rattle.pack_records.specs.EarlyLaws.{early_more, early_none, early_front}
+use Rattle.pack_records.specs.Payloads.{IsDecided}
 use Rattle.stream_records.specs.declared.item.StreamsFound.TheVariants.{Packets, Broken, Unequal}
 use Rattle.stream_records.specs.declared.item.StreamsItem.{StreamsItem}
 use Rattle.stream_records.specs.declared.durations.Other.{Other}
 use Rattle.stream_records.specs.declared.durations.Durations.{Durations}
 use Rattle.stream_records.specs.declared.stream_pieces.StreamPieces.{StreamPieces}
-use Rattle.stream_records.specs.declared.taken.Taken.TheVariants.{Bad}
-use Rattle.stream_records.specs.Holds.{record_of, sizes_of, held_as, spelling_of, Holds, ShowsEarly}
+use Rattle.stream_records.specs.Holds.{Choices, record_of, sizes_of, held_as, spelling_of, Holds}
 use Rattle.stream_records.specs.HoldsLaws.{stand_sizes}
 use Rattle.stream_records.specs.Told.{stream_in, BeginsBehind, Told}
-use Rattle.stream_records.specs.StreamPieces.{shown_by, choices_of, whole_in, Reads, HasRefused, HasAdded, LastShows, HasLast, HasTaken}
+use Rattle.stream_records.specs.StreamPieces.{shown_by, choices_of, whole_in, Reads, HasRefused, HasAdded, LastShows, HasLast}
+use Rattle.stream_records.specs.StreamReading.{DecidedEarly, streams_reading}
 use Rattle.stream_records.proofs.TurnLemmas.{multi, count_whole, told_added, whole_push}
 
 -- ---- no packet can follow
@@ -63,11 +64,24 @@ stand_take (s ∷ ss) n bytes rest fits h =
           (stand_take ss n (drop s.size bytes) rest fits h.1),
     )
 
+-- the record that stands is one that is decided
+decided_by : (p new : StreamPieces) (start range : ℕ) (bytes : List ℕ) → choices_of new ≡ choices_of p
+    → (e : DecidedEarly p.streams start range bytes) → e.shown ≡ shown_by new
+    → (shown_by new).item.place ≡ start + length bytes → IsDecided streams_reading new start range bytes
+decided_by p new start range bytes same e is at =
+    let d = subst (λ n. (e : DecidedEarly n start range bytes) × (e.shown ≡ shown_by new))
+    (sym (ap (λ (c : Choices). c.streams) same)) (e, is) in
+    record {
+      early = d.0;
+      shown = λ own. sym d.1;
+      place = ap (λ (x : Shown StreamsItem). x.item.place) d.1 ∙ at;
+    }
+
 pub bad_taken : (p new : StreamPieces) (f : Fault) (start range place count : ℕ) (h piece : List ℕ)
     → choices_of new ≡ choices_of p → HasRefused p start f (length h) (h ++ piece) → place ≡ p.begun + f.place + 1
     → count + (start + length h) ≡ place
     → shown_by new ≡ record_of start place range (Broken (length (whole_in p)) p.begun f) [] []
-    → HasTaken new start range h piece (Bad count)
+    → IsDecided streams_reading new start range (h ++ take count piece)
 bad_taken p new f start range place count h piece same r at count_is shown =
     let framing = framing_of p.streams (length r.first) in
     let g = r.refuses.fault_is in
@@ -89,8 +103,9 @@ bad_taken p new f start range place count h piece same r at count_is shown =
     subst (λ l. StandFirst r.first l front) parts (stand_take r.first (f.place + 1) (h ++ piece) r.rest (omega (arith, high)) r.stand) in
     let sizes = stand_sizes r.first (h ++ take count piece) front stand in
     let where_is : place ≡ start + sizes_of r.first + min (f.place + 1) (length front) = omega (arith, at, began, size) in
-    let bad : ShowsEarly p.streams start range (h ++ take count piece) (shown_by new) =
+    let bad : DecidedEarly p.streams start range (h ++ take count piece) =
     record {
+      shown = shown_by new;
       holds = record {
         stream = length r.first;
         fault = f;
@@ -109,10 +124,9 @@ bad_taken p new f start range place count h piece same r at count_is shown =
             ∙ ap (λ b. record_of start (start + sizes_of r.first + min (f.place + 1) (length front)) range (Broken (length r.first) b f) [] []) began;
       };
       early = omega (arith, size);
-    } in (
-      subst (λ n. ShowsEarly n start range (h ++ take count piece) (shown_by new)) (sym (ap (λ c. c.streams) same)) bad,
-      ap (λ (x : Shown StreamsItem). x.item.place) shown ∙ omega (arith, at, began, size, sizes),
-    )
+    } in
+    decided_by p new start range (h ++ take count piece) same bad refl
+    (ap (λ (x : Shown StreamsItem). x.item.place) shown ∙ omega (arith, at, began, size, sizes))
 
 -- ---- no byte follows
 

@@ -6,7 +6,8 @@ pub mod Told
 pub mod StreamPieces
 pub mod Raw
 pub mod RawLaws
+pub mod StreamReading
+pub mod StreamReadingLaws
 pub mod Demo
 pub mod DemoRests
-pub mod DemoLaws
 pub mod DemoForm

@@ -22,8 +22,6 @@ use Rattle.stream_records.specs.declared.item.StreamsFound.TheVariants.{Packets,
 use Rattle.stream_records.specs.declared.item.StreamsItem.{StreamsItem}
 use Rattle.stream_records.specs.declared.durations.Other.{Other}
 use Rattle.stream_records.specs.declared.stream_pieces.StreamPieces.{StreamPieces}
-use Rattle.stream_records.specs.declared.taken.Taken.{Taken}
-use Rattle.stream_records.specs.declared.taken.Taken.TheVariants.{More, Bad}
 use Rattle.stream_records.specs.Fits.{ItemFits}
 use Rattle.stream_records.specs.Holds.{Choices, record_of, sizes_of, held_as, spelling_of, ShowsEarly}
 use Rattle.stream_records.specs.Spellings.{spelling_read}
@@ -122,20 +120,3 @@ pub record HasLast (old : StreamPieces) (start range place : ℕ) (r : Shown Str
   pub all : StreamPieces
   pub added : HasAdded Whole old all
   pub shows : LastShows all.durations.other all start range place r
-
--- a piece came behind h, whose first byte stands at `start`
-abbrev pub HasTaken : StreamPieces → ℕ → ℕ → List ℕ → List ℕ → Taken → Type 0
-HasTaken p start range h piece More = Reads p start (h ++ piece)
-HasTaken p start range h piece (Bad count) =
-    ShowsEarly p.streams start range (h ++ take count piece) (shown_by p)
-    × (p.item.place ≡ start + length (h ++ take count piece))
-
--- some bytes of a piece, one at least
-abbrev pub IsCount : Taken → ℕ → Type 0
-IsCount More size = Unit {0}
-IsCount (Bad count) size = (1 ≤ count) × (count ≤ size)
-
--- a record stands
-abbrev pub IsStanding : Taken → Type 0 → Type 0
-IsStanding More Ready = Unit {0}
-IsStanding (Bad count) Ready = Ready

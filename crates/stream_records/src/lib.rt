@@ -12,7 +12,6 @@ mod item;
 pub mod laws;
 mod raw;
 mod stream_pieces;
-mod taken;
 #[cfg(test)]
 mod tests;
 

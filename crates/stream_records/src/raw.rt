@@ -8,11 +8,10 @@ ghost use Rattle.stream_records.specs.RawLaws.{raw_settled, raw_grows, raw_ends_
 
 use crate::item::StreamsItem;
 use crate::stream_pieces::StreamPieces;
-use crate::taken::Taken;
 use job_loop::{Close, Fed, Form, Lent};
 use opus_feed::Padding;
 use opus_io::NoMemory;
-use pack_records::Cut;
+use pack_records::{Cut, PayloadReader};
 use std::alloc::Global;
 
 /// The whole input as one record, with one multistream packet or its fault. A stream's fault is decided by the very byte
@@ -74,11 +73,11 @@ impl Form for RawStreams {
             });
         }
         match self.pieces.take(0, 0, at, piece) {
-            Taken::More => Ok(Fed {
+            None => Ok(Fed {
                 count: piece.len(),
                 whole: false,
             }),
-            Taken::Bad(count) => {
+            Some(count) => {
                 self.over = true;
                 Ok(Fed { count, whole: true })
             }
@@ -86,7 +85,7 @@ impl Form for RawStreams {
     }
 
     fn record<'a>(&'a self, own: &'a [u8]) -> Lent<'a, StreamsItem> {
-        self.pieces.record()
+        self.pieces.record(own)
     }
 
     fn end(&mut self, at: u64) -> Close<Cut> {

@@ -6,17 +6,17 @@ ghost use Rattle.opus_multi.specs.MultistreamFault.{framing_of};
 use crate::durations::Durations;
 use crate::form::{MOST_KEPT, append_form, spelling};
 use crate::item::{StreamsFound, StreamsItem};
-use crate::taken::Taken;
 use arrayvec::ArrayVec;
 use job_loop::Lent;
 use opus_feed::{Feed, Framing, Padding, Step};
 use opus_io::NoMemory;
 use opus_packet::Fault;
+use pack_records::PayloadReader;
 use std::alloc::Global;
 
 /// The multistream packet of one record. One feed serves all streams, one after another. All memory is taken by `new`.
 #[derive(Drop)]
-pub(crate) struct StreamPieces {
+pub struct StreamPieces {
     streams: u8,
     feed: Feed,
     // The kept forms of the streams that are whole.
@@ -39,7 +39,7 @@ impl StreamPieces {
     ghost use Rattle.stream_records.specs.declared.item.StreamsFound.TheVariants as kinds;
     ghost use Rattle.stream_records.specs.Fits.{ItemFits, FoundFits};
     ghost use Rattle.stream_records.specs.Holds.{Holds, record_of, lost_record};
-    ghost use Rattle.stream_records.specs.StreamPieces.{shown_by, IsReady, choices_of, whole_in, Reads, TurnReads, Turned, AllReads, HasAdded, HasLast, HasTaken, IsCount, IsStanding};
+    ghost use Rattle.stream_records.specs.StreamPieces.{shown_by, IsReady, choices_of, whole_in, Reads, TurnReads, Turned, AllReads, HasAdded, HasLast};
 
     /// No byte came of a record whose first byte stands at 0.
     pub(crate) fn new(
@@ -68,17 +68,6 @@ impl StreamPieces {
         })
     }
 
-    /// Begins with another record, whose first byte stands at `start`.
-    pub(crate) fn begin(&mut self, start: u64)
-        ensures reads { Reads self.new start [] }
-        ensures same { choices_of self.new ≡ choices_of self.old }
-    {
-        self.clear();
-        self.durations = Durations::new();
-        self.begun = start;
-        self.feed.reset(framing_at(self.streams, 0));
-    }
-
     // Forgets the streams that are whole.
     fn clear(&mut self)
         ensures kept { self.new.kept.items ≡ [] }
@@ -87,27 +76,6 @@ impl StreamPieces {
     {
         self.kept.clear();
         self.item.streams.clear();
-    }
-
-    /// Takes the next bytes of a record whose first byte stands at `start`. The first of these stands at `at`.
-    pub(crate) fn take(&mut self, start: u64, range: u32, at: u64, piece: &[u8]) -> Taken
-        requires some { 0 < length piece.now }
-        requires fits { at + length piece.now ≤ max_input }
-        ensures taken { (h : List ℕ) → Reads self.old start h → start + length h ≡ at
-            → HasTaken self.new start range h piece.now result }
-        ensures count { IsCount result (length piece.now) }
-        ensures ready { IsStanding result (IsReady self.new) }
-        ensures same { choices_of self.new ≡ choices_of self.old }
-    {
-        match self.turns(at + piece.len() as u64, piece) {
-            Ok(()) => Taken::More,
-            Err(fault) => {
-                let place = self.begun.saturating_add(fault.place).saturating_add(1);
-                self.refuse(start, range, place, fault);
-                let count = place.saturating_sub(at) as usize;
-                Taken::Bad(count.max(1).min(piece.len()))
-            }
-        }
     }
 
     // Feeds one stream after another with a piece that ends at this place. A fault is that of the stream that has begun.
@@ -178,25 +146,6 @@ impl StreamPieces {
         self.item.streams.push(spelling(&packet));
     }
 
-    /// Says that no byte follows those that came, of which the last stands before `at`.
-    #[cold]
-    #[inline(never)]
-    pub(crate) fn end(&mut self, start: u64, range: u32, at: u64)
-        ensures holds { (h : List ℕ) → Reads self.old start h → start + length h ≡ at
-            → Holds (choices_of self.old) start range h (shown_by self.new) }
-        ensures ready { IsReady self.new }
-        ensures same { choices_of self.new ≡ choices_of self.old }
-    {
-        match self.feed.finish() {
-            Ok(()) if self.item.streams.len() < usize::from(self.streams) => {
-                self.end_last(start, range, at);
-            }
-            // The streams of a record are never all whole before it ends.
-            Ok(()) => self.lose(start, range),
-            Err(fault) => self.refuse(start, range, at, fault),
-        }
-    }
-
     // The same where the packet of the last stream is whole.
     fn end_last(&mut self, start: u64, range: u32, at: u64)
         requires whole { IsWhole self.old.feed.place }
@@ -235,16 +184,6 @@ impl StreamPieces {
         self.tell(start, range, place, found);
     }
 
-    /// A record that holds a lost packet.
-    pub(crate) fn lose(&mut self, start: u64, range: u32)
-        ensures shown { shown_by self.new ≡ lost_record start range }
-        ensures ready { IsReady self.new }
-        ensures same { choices_of self.new ≡ choices_of self.old }
-    {
-        self.clear();
-        self.tell(start, range, start, StreamsFound::Lost);
-    }
-
     // What the record holds.
     fn tell(&mut self, start: u64, range: u32, place: u64, found: StreamsFound)
         ensures shown { shown_by self.new
@@ -257,15 +196,67 @@ impl StreamPieces {
         self.item.found = found;
     }
 
-    /// The record that stands.
+}
+
+impl PayloadReader for StreamPieces {
+    ghost use Rattle.stream_records.specs.Holds.{Choices};
+    ghost use Rattle.stream_records.specs.StreamReading.{streams_reading};
+    ghost use Rattle.stream_records.specs.StreamReadingLaws.{streams_lawful};
+
+    type Record = StreamsItem;
+
+    ghost Layout = { Choices };
+
+    ghost reads = { streams_reading };
+
+    // The kept forms of several streams never lie where they were read.
+    fn here(&mut self, start: u64, range: u32, before: usize, own: &[u8]) -> bool {
+        false
+    }
+
+    fn begin(&mut self, start: u64) {
+        self.clear();
+        self.durations = Durations::new();
+        self.begun = start;
+        self.feed.reset(framing_at(self.streams, 0));
+    }
+
+    fn take(&mut self, start: u64, range: u32, at: u64, piece: &[u8]) -> Option<usize> {
+        match self.turns(at + piece.len() as u64, piece) {
+            Ok(()) => None,
+            Err(fault) => {
+                let place = self.begun.saturating_add(fault.place).saturating_add(1);
+                self.refuse(start, range, place, fault);
+                let count = place.saturating_sub(at) as usize;
+                Some(count.max(1).min(piece.len()))
+            }
+        }
+    }
+
+    #[cold]
+    #[inline(never)]
+    fn end(&mut self, start: u64, range: u32, at: u64) {
+        match self.feed.finish() {
+            Ok(()) if self.item.streams.len() < usize::from(self.streams) => {
+                self.end_last(start, range, at);
+            }
+            // The streams of a record are never all whole before it ends.
+            Ok(()) => self.lose(start, range),
+            Err(fault) => self.refuse(start, range, at, fault),
+        }
+    }
+
+    fn lose(&mut self, start: u64, range: u32) {
+        self.clear();
+        self.tell(start, range, start, StreamsFound::Lost);
+    }
+
     #[inline(always)]
-    pub(crate) fn record(&self) -> Lent<'_, StreamsItem>
-        requires { IsReady self.now }
-        ensures is { result ≡ shown_by self.now }
-        ensures fits { ItemFits result.item result.bytes }
-    {
+    fn record<'a>(&'a self, own: &'a [u8]) -> Lent<'a, StreamsItem> {
         Lent::new(&self.item, self.kept.as_slice())
     }
+
+    ghost lawful = { streams_lawful };
 }
 
 // Which packets stream `k` of so many is read from: all but the last are self-delimited.

@@ -2,7 +2,7 @@ use Rattle.std.proofs.Common.{◌≡◌, ◌+◌, ◌++◌, length, length-appen
 use Rattle.stream_records.specs.StreamPieces.{HasRefused}
 use Rattle.stream_records.specs.HoldsLaws.{stand_sizes}
 use Rattle.stream_records.proofs.TakenLemmas.{bad_taken}
-use Rattle.stream_records.proofs.stream_pieces.StreamPieces.take.Goals as goal
+use Rattle.stream_records.proofs.stream_pieces.StreamPiecesPayloadReader.take.Goals as goal
 
 pub returns-in-Err-clause-taken : goal.returns-in-Err-clause-taken
 returns-in-Err-clause-taken c h r at =
