@@ -22,13 +22,13 @@ use Rattle.opus_multi.specs.Forms.{canonical_multistream, kept_multistream}
 
 -- one frame of 20 ms, and one of 10 ms
 
-first : PacketValue
+unfoldable pub first : PacketValue
 first = record { config = 31; stereo = false; frames = (0xAA ∷ []) ∷ [] }
 
-second : PacketValue
+unfoldable pub second : PacketValue
 second = record { config = 31; stereo = false; frames = (0xBB ∷ []) ∷ [] }
 
-short : PacketValue
+unfoldable pub short : PacketValue
 short = record { config = 30; stereo = false; frames = (0xBB ∷ []) ∷ [] }
 
 -- the written forms
@@ -50,13 +50,13 @@ first_second-kept = refl
 
 -- two streams in code 3, the first with a padding byte
 
-first_padded : SpelledStream
+unfoldable pub first_padded : SpelledStream
 first_padded = record { value = first; shape = shape_of 3 false 2; size = 6; tail = 0x00 ∷ [] }
 
-second_counted : SpelledStream
+unfoldable pub second_counted : SpelledStream
 second_counted = record { value = second; shape = shape_of 3 false 0; size = 3; tail = [] }
 
-first_padded-packet : IsSelfDelimited first (shape_of 3 false 2) (0x00 ∷ []) (0xFB ∷ 0x41 ∷ 0x01 ∷ 0x01 ∷ 0xAA ∷ 0x00 ∷ [])
+pub first_padded-packet : IsSelfDelimited first (shape_of 3 false 2) (0x00 ∷ []) (0xFB ∷ 0x41 ∷ 0x01 ∷ 0x01 ∷ 0xAA ∷ 0x00 ∷ [])
 unfolding first header_bytes samples_of row_of
 first_padded-packet = record {
   value = record { config = omega arith; some = omega arith; most = omega arith; each = (omega arith, tt); duration = omega arith };
@@ -65,7 +65,7 @@ first_padded-packet = record {
   spelled = refl;
 }
 
-second_counted-packet : IsPacket second (shape_of 3 false 0) [] (0xFB ∷ 0x01 ∷ 0xBB ∷ [])
+pub second_counted-packet : IsPacket second (shape_of 3 false 0) [] (0xFB ∷ 0x01 ∷ 0xBB ∷ [])
 unfolding second header_bytes samples_of row_of
 second_counted-packet = record {
   value = record { config = omega arith; some = omega arith; most = omega arith; each = (omega arith, tt); duration = omega arith };
@@ -74,7 +74,7 @@ second_counted-packet = record {
   spelled = refl;
 }
 
-first_second-packet : IsMultistream (first ∷ second ∷ []) ((0x00 ∷ []) ∷ [] ∷ [])
+unfoldable pub first_second-packet : IsMultistream (first ∷ second ∷ []) ((0x00 ∷ []) ∷ [] ∷ [])
     (0xFB ∷ 0x41 ∷ 0x01 ∷ 0x01 ∷ 0xAA ∷ 0x00 ∷ 0xFB ∷ 0x01 ∷ 0xBB ∷ [])
 unfolding first_padded second_counted first second samples_of row_of
 first_second-packet = record {
@@ -94,13 +94,13 @@ first_second-packet = record {
 
 -- 20 ms and 10 ms: stream 1 is the first that differs
 
-first_plain : SpelledStream
+unfoldable pub first_plain : SpelledStream
 first_plain = record { value = first; shape = shape_of 0 false 0; size = 3; tail = [] }
 
-short_plain : SpelledStream
+unfoldable pub short_plain : SpelledStream
 short_plain = record { value = short; shape = shape_of 0 false 0; size = 2; tail = [] }
 
-first_plain-packet : IsSelfDelimited first (shape_of 0 false 0) [] (0xF8 ∷ 0x01 ∷ 0xAA ∷ [])
+pub first_plain-packet : IsSelfDelimited first (shape_of 0 false 0) [] (0xF8 ∷ 0x01 ∷ 0xAA ∷ [])
 unfolding first header_bytes samples_of row_of
 first_plain-packet = record {
   value = record { config = omega arith; some = omega arith; most = omega arith; each = (omega arith, tt); duration = omega arith };
@@ -109,7 +109,7 @@ first_plain-packet = record {
   spelled = refl;
 }
 
-short_plain-packet : IsPacket short (shape_of 0 false 0) [] (0xF0 ∷ 0xBB ∷ [])
+pub short_plain-packet : IsPacket short (shape_of 0 false 0) [] (0xF0 ∷ 0xBB ∷ [])
 unfolding short header_bytes samples_of row_of
 short_plain-packet = record {
   value = record { config = omega arith; some = omega arith; most = omega arith; each = (omega arith, tt); duration = omega arith };
@@ -118,7 +118,7 @@ short_plain-packet = record {
   spelled = refl;
 }
 
-first_short-unequal : IsMultistreamFault 2 (0xF8 ∷ 0x01 ∷ 0xAA ∷ 0xF0 ∷ 0xBB ∷ []) (Unequal 1)
+unfoldable pub first_short-unequal : IsMultistreamFault 2 (0xF8 ∷ 0x01 ∷ 0xAA ∷ 0xF0 ∷ 0xBB ∷ []) (Unequal 1)
 unfolding first_plain short_plain first short samples_of row_of
 first_short-unequal = record {
   streams = first_plain ∷ short_plain ∷ [];

@@ -98,13 +98,13 @@ refused old new f k fault bytes piece is streams parts padding framing fed faile
 -- a stream that ends
 
 -- the bytes are the stream's packet, self-delimited, which was read so
-record IsNext (padding : Padding) (p : PacketRead) (bytes : List ℕ) : Type 0 where
-  stream : SpelledStream
-  begins : BeginsWithStream stream bytes
-  all : stream.size ≡ length bytes
-  is : p ≡ read_with padding stream
+pub record IsNext (padding : Padding) (p : PacketRead) (bytes : List ℕ) : Type 0 where
+  pub stream : SpelledStream
+  pub begins : BeginsWithStream stream bytes
+  pub all : stream.size ≡ length bytes
+  pub is : p ≡ read_with padding stream
 
-next_is : (padding : Padding) (p : PacketRead) (rest piece : List ℕ) (used : ℕ) → IsRead SelfDelimited padding (rest ++ piece) p
+pub next_is : (padding : Padding) (p : PacketRead) (rest piece : List ℕ) (used : ℕ) → IsRead SelfDelimited padding (rest ++ piece) p
     → Ends (length rest) (rest ++ piece) (Done used) → used ≤ length piece → IsNext padding p (rest ++ take used piece)
 next_is padding p rest piece used read ends within =
     let (q, spelled, inside, tail) = read in

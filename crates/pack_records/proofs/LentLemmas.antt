@@ -1,5 +1,5 @@
 -- The lent bytes of a packet spell its value and no other.
-use Rattle.std.proofs.Common.{◌≡◌, ◌⊎◌, ℕ, ◌+◌, ◌-◌, ◌*◌, ◌/◌, ◌<◌, ◌≤◌, Bool, true, false, nat_le, ◌&&◌, ◌==◌, if◌then◌else◌, List, [], ◌∷◌, ◌++◌, length, take, drop, map, sum, Option, Some, None, option_map, Result, Ok, Err, IfOk, refl, sym, ap, ◌∙◌, subst, append-nil, length-append, drop_at, take_all, leb-true, arith}
+use Rattle.std.proofs.Common.{◌≡◌, ℕ, ◌+◌, ◌-◌, ◌≤◌, Bool, true, false, nat_le, ◌&&◌, ◌==◌, if◌then◌else◌, List, [], ◌∷◌, ◌++◌, length, drop, Option, Some, None, option_map, Result, Ok, Err, IfOk, refl, sym, ap, ◌∙◌, subst, append-nil, length-append, drop_at, take_all, leb-true, arith}
 use Rattle.std.specs.List.{concat}
 use Rattle.std.specs.Result.{IsOkAnd, result_ok}
 use Rattle.std.proofs.Math.Nat.{mul-div_cancel_left}
@@ -15,7 +15,7 @@ use Rattle.opus_packet.specs.PacketGrammar.{IsPacket, Spells, header_for}
 use Rattle.opus_packet.specs.PacketPrefix.{AreBytes}
 use Rattle.opus_packet.specs.SelfGrammar.{IsSelfDelimited, BeginsWithSelf}
 use Rattle.opus_packet.specs.SelfPrefix.{SelfHeaderRead, sized, unsized, never, self_header_read, self_size}
-use Rattle.opus_packet.specs.Tail.{TailRead, max_tail, kept, counted, kept_bytes}
+use Rattle.opus_packet.specs.Tail.{max_tail, kept, counted, kept_bytes}
 use Rattle.opus_packet.proofs.GrammarLemmas.{found, only, header_for-is, body_size-unique}
 use Rattle.opus_self.specs.ValueBehind.{value_behind}
 use Rattle.opus_self.proofs.SelfLemmas.{last_of, last_is, rest_of, spelled_apart, self_header_read-packet, length-packet, undelimited}

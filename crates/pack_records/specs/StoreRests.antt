@@ -1,10 +1,10 @@
 -- The rest of a store: what is decided of it, and what more bytes make of it.
-use Rattle.std.proofs.Common.{◌≡◌, ◌⊎◌, inl, inr, ℕ, ◌+◌, ◌<◌, ◌≤◌, List, [], ◌∷◌, ◌++◌, take, drop, length, sym, ap, ◌∙◌, subst, length-append, append_assoc, take-append-drop, arith}
+use Rattle.std.proofs.Common.{◌≡◌, ◌⊎◌, inl, inr, ℕ, ◌<◌, ◌≤◌, List, [], ◌∷◌, ◌++◌, take, drop, length, sym, ap, ◌∙◌, subst, append_assoc, take-append-drop, arith}
 use Rattle.std.proofs.lemmas.Bool.{cases_lt}
 use Rattle.std.proofs.lemmas.List.{take-append-le}
 use Rattle.std.proofs.Math.Seq.{take-append_seam}
 use Rattle.opus_packet.specs.PacketPrefix.{AreBytes}
-use Rattle.opus_packet.proofs.BytesLemmas.{AreBytes-left, AreBytes-right}
+use Rattle.opus_packet.proofs.BytesLemmas.{AreBytes-right}
 use Rattle.rec_store.specs.DemoStore.{demo_head, demo_record, IsDemoRecord, NoWholeRecord}
 use Rattle.rec_store.proofs.DemoLemmas.{demo_head-front, demo_record-whole}
 use Rattle.pack_records.specs.Payloads.{Showing, IsShowing}

@@ -1,5 +1,5 @@
 -- What undelimited packets show, as the payloads of records.
-use Rattle.std.specs.Prelude.{ℕ, List, length}
+use Rattle.std.specs.Prelude.{length}
 use Rattle.job_loop.specs.Shown.{Shown}
 use Rattle.opus_feed.specs.declared.framing.Framing.TheVariants.{Whole}
 use Rattle.opus_feed.specs.declared.padding.Padding.{Padding}

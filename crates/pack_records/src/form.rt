@@ -1,8 +1,7 @@
 //! The kept form of a packet, written where there is room for it.
-ghost use Rattle.std.specs.Prelude.{◌≡◌, ◌≤◌, ℕ, List, [], true, vec_capacity};
+ghost use Rattle.std.specs.Prelude.{◌≡◌, ◌+◌, ◌++◌, ◌≤◌, ℕ, List, true, length, vec_capacity};
 ghost use Rattle.opus_packet.specs.Tail.{kept_bytes, tail_of};
 ghost use Rattle.pack_records.specs.Forms.{IsFormOf};
-ghost use Rattle.opus_packet.specs.Canonical.{kept_form, kept_self_delimited};
 ghost use Rattle.pack_records.specs.Fits.{form_of};
 
 use opus_feed::{Framing, Padding};
@@ -13,7 +12,7 @@ use opus_writer::{
 };
 
 /// Room for every kept form, in bytes.
-pub(crate) const MOST_KEPT: usize = 192_628;
+pub const MOST_KEPT: usize = 192_628;
 
 /// Writes the kept form with the padding bytes that the packet has, in place of what was there.
 #[cold]
@@ -24,42 +23,31 @@ pub(crate) fn write_form(framing: Framing, packet: &Packet<'_>, out: &mut Vec<u8
     ensures room { 192628 ≤ vec_capacity out.new }
 {
     out.clear();
-    match framing {
-        Framing::Whole => write_whole(packet, out),
-        Framing::SelfDelimited => write_delimited(packet, out),
-    }
+    append_form(framing, packet, out);
 }
 
-fn write_whole(packet: &Packet<'_>, out: &mut Vec<u8>)
-    requires room { 192628 ≤ vec_capacity out.old }
-    requires none { out.old.items ≡ [] }
-    ensures form { out.new.items ≡ kept_form packet.now.value (kept_bytes packet.now.tail) }
-    ensures room { 192628 ≤ vec_capacity out.new }
+/// Appends the kept form with the padding bytes that the packet has.
+pub fn append_form(framing: Framing, packet: &Packet<'_>, out: &mut Vec<u8>)
+    requires room { length out.old.items + 192628 ≤ vec_capacity out.old }
+    ensures form { out.new.items
+        ≡ out.old.items ++ form_of framing packet.now.value (kept_bytes packet.now.tail) }
+    ensures most { length out.new.items ≤ length out.old.items + 192628 }
+    ensures capacity { vec_capacity out.old ≤ vec_capacity out.new }
 {
-    match packet.tail() {
-        Tail::Bytes(_) => {
+    match (framing, packet.tail()) {
+        (Framing::Whole, Tail::Bytes(_)) => {
             let _ = keep_size(packet);
             write_keep(packet, out).unwrap();
         }
-        Tail::Dropped(_) => {
+        (Framing::Whole, Tail::Dropped(_)) => {
             let _ = canon_size(packet);
             write_canon(packet, out).unwrap();
         }
-    }
-}
-
-fn write_delimited(packet: &Packet<'_>, out: &mut Vec<u8>)
-    requires room { 192628 ≤ vec_capacity out.old }
-    requires none { out.old.items ≡ [] }
-    ensures form { out.new.items ≡ kept_self_delimited packet.now.value (kept_bytes packet.now.tail) }
-    ensures room { 192628 ≤ vec_capacity out.new }
-{
-    match packet.tail() {
-        Tail::Bytes(_) => {
+        (Framing::SelfDelimited, Tail::Bytes(_)) => {
             let _ = keep_self_size(packet);
             write_keep_self(packet, out).unwrap();
         }
-        Tail::Dropped(_) => {
+        (Framing::SelfDelimited, Tail::Dropped(_)) => {
             let _ = canon_self_size(packet);
             write_canon_self(packet, out).unwrap();
         }

@@ -25,6 +25,7 @@ mod undelimited;
 
 pub use cut::Cut;
 pub use demo::DemoForm;
+pub use form::{MOST_KEPT, append_form};
 pub use framed::SelfForm;
 pub use item::{Found, Item};
 pub use lent::lent_packet;

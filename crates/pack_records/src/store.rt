@@ -164,7 +164,10 @@ impl<P: PayloadReader> Store<P> {
         ensures ready { result.whole ≡ true → P.reads.ready self.new.payload (take result.count piece.now) }
     {
         let most = piece.len().min(self.left as usize);
-        match self.payload.take(self.start, self.range, at, &piece[..most]) {
+        match self
+            .payload
+            .take(self.start, self.range, at, &piece[..most])
+        {
             None => {
                 let whole = self.pass(most, Mode::Payload);
                 if whole {

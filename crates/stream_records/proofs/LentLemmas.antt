@@ -1,9 +1,9 @@
 -- The bytes that are lent of packets are a multistream packet of the same values.
-use Rattle.std.proofs.Common.{◌≡◌, ℕ, ◌+◌, ◌≤◌, Bool, true, false, nat_le, if◌then◌else◌, List, [], ◌∷◌, ◌++◌, length, map, take, drop, replicate, refl, sym, ap, ◌∙◌, subst, leb-true, arith, length-append}
+use Rattle.std.proofs.Common.{◌≡◌, ℕ, ◌≤◌, Bool, true, false, nat_le, if◌then◌else◌, List, [], ◌∷◌, ◌++◌, length, map, drop, refl, sym, ap, ◌∙◌, subst, leb-true, arith, length-append}
 use Rattle.std.proofs.lemmas.List.{length-map}
 use Rattle.std.specs.List.{AllByRecursion}
 use Rattle.job_loop.specs.Shown.{Shown}
-use Rattle.opus_packet.specs.Value.{PacketValue, IsPacketValue, duration_of}
+use Rattle.opus_packet.specs.Value.{IsPacketValue, duration_of}
 use Rattle.opus_packet.specs.Held.{HeldRead}
 use Rattle.opus_packet.specs.Tail.{kept, counted, kept_bytes, max_tail}
 use Rattle.opus_feed.specs.declared.padding.Padding.{Padding}

@@ -2,68 +2,16 @@
 use Rattle.std.proofs.Common.{false, [], ◌∷◌, refl, arith}
 use Rattle.opus_toc.specs.Configuration.{samples_of, row_of}
 use Rattle.opus_flen.specs.PaddingLength.{most_full}
-use Rattle.opus_packet.specs.Value.{PacketValue}
 use Rattle.opus_packet.specs.Header.{header_bytes}
 use Rattle.opus_packet.specs.HeaderRead.{shape_of, header_read}
 use Rattle.opus_packet.specs.PacketFault.{fault}
 use Rattle.opus_packet.specs.declared.fault.Rule.TheVariants.{R1, R5}
 use Rattle.opus_packet.specs.Canonical.{kept_form, kept_self_delimited}
-use Rattle.opus_packet.specs.PacketGrammar.{IsPacket}
-use Rattle.opus_packet.specs.SelfGrammar.{IsSelfDelimited}
 use Rattle.opus_packet.proofs.PrefixLemmas.{prefix_of_packet}
 use Rattle.opus_feed.specs.declared.padding.Padding.TheVariants.{Drop, Keep}
-use Rattle.opus_multi.specs.Streams.{SpelledStream, AreStreams}
+use Rattle.opus_multi.proofs.StandardFacts.{first, second, short, first_padded, second_counted, first_plain, short_plain, first_plain-packet, first_second-packet, first_short-unequal}
 use Rattle.stream_records.specs.declared.item.StreamsFound.TheVariants.{Packets, Broken, Unequal}
 use Rattle.stream_records.specs.Holds.{record_of, HoldsStreams, HoldsBroken, HoldsUnequal, ShowsEarly}
-
--- one frame of 20 ms, and one of 10 ms
-
-first : PacketValue
-first = record { config = 31; stereo = false; frames = (0xAA ∷ []) ∷ [] }
-
-second : PacketValue
-second = record { config = 31; stereo = false; frames = (0xBB ∷ []) ∷ [] }
-
-short : PacketValue
-short = record { config = 30; stereo = false; frames = (0xBB ∷ []) ∷ [] }
-
--- two streams in code 3, the first with a padding byte
-
-first_padded : SpelledStream
-first_padded = record { value = first; shape = shape_of 3 false 2; size = 6; tail = 0x00 ∷ [] }
-
-second_counted : SpelledStream
-second_counted = record { value = second; shape = shape_of 3 false 0; size = 3; tail = [] }
-
-first_padded-packet : IsSelfDelimited first (shape_of 3 false 2) (0x00 ∷ []) (0xFB ∷ 0x41 ∷ 0x01 ∷ 0x01 ∷ 0xAA ∷ 0x00 ∷ [])
-unfolding first header_bytes samples_of row_of
-first_padded-packet = record {
-  value = record { config = omega arith; some = omega arith; most = omega arith; each = (omega arith, tt); duration = omega arith };
-  suits = (omega arith, λ plain. (1, (refl, tt)));
-  padding = refl;
-  spelled = refl;
-}
-
-second_counted-packet : IsPacket second (shape_of 3 false 0) [] (0xFB ∷ 0x01 ∷ 0xBB ∷ [])
-unfolding second header_bytes samples_of row_of
-second_counted-packet = record {
-  value = record { config = omega arith; some = omega arith; most = omega arith; each = (omega arith, tt); duration = omega arith };
-  suits = (omega arith, λ plain. (1, (refl, tt)));
-  padding = refl;
-  spelled = refl;
-}
-
-first_second : AreStreams (first_padded ∷ second_counted ∷ [])
-    (0xFB ∷ 0x41 ∷ 0x01 ∷ 0x01 ∷ 0xAA ∷ 0x00 ∷ 0xFB ∷ 0x01 ∷ 0xBB ∷ [])
-unfolding first_padded second_counted first second samples_of row_of
-first_second = record {
-  front = first_padded ∷ [];
-  last = second_counted;
-  rest = 0xFB ∷ 0x01 ∷ 0xBB ∷ [];
-  streams_are = refl;
-  stand = (record { within = omega arith; spelled = first_padded-packet }, refl);
-  ends = record { size_is = refl; spelled = second_counted-packet };
-}
 
 -- without the padding byte, which is counted
 two_dropped : HoldsStreams (record { streams = 2; padding = Drop }) 0 0
@@ -71,11 +19,11 @@ two_dropped : HoldsStreams (record { streams = 2; padding = Drop }) 0 0
     (record_of 0 9 0 Packets
     (record { shape = shape_of 3 false 2; size = 6; dropped = 1 } ∷ record { shape = shape_of 3 false 0; size = 3; dropped = 0 } ∷ [])
     (0xF8 ∷ 0x01 ∷ 0xAA ∷ 0xF8 ∷ 0xBB ∷ []))
-unfolding first_padded second_counted first second kept_form kept_self_delimited header_bytes samples_of row_of most_full
+unfolding first_second-packet first_padded second_counted first second kept_form kept_self_delimited header_bytes samples_of row_of most_full
 two_dropped = record {
   streams = first_padded ∷ second_counted ∷ [];
   counted = refl;
-  are = first_second;
+  are = first_second-packet.are;
   duration = (960, refl);
   shows = refl;
 }
@@ -86,60 +34,19 @@ two_kept : HoldsStreams (record { streams = 2; padding = Keep }) 0 0
     (record_of 0 9 0 Packets
     (record { shape = shape_of 3 false 2; size = 6; dropped = 0 } ∷ record { shape = shape_of 3 false 0; size = 3; dropped = 0 } ∷ [])
     (0xFB ∷ 0x41 ∷ 0x01 ∷ 0x01 ∷ 0xAA ∷ 0x00 ∷ 0xF8 ∷ 0xBB ∷ []))
-unfolding first_padded second_counted first second kept_form kept_self_delimited header_bytes samples_of row_of most_full
+unfolding first_second-packet first_padded second_counted first second kept_form kept_self_delimited header_bytes samples_of row_of most_full
 two_kept = record {
   streams = first_padded ∷ second_counted ∷ [];
   counted = refl;
-  are = first_second;
+  are = first_second-packet.are;
   duration = (960, refl);
   shows = refl;
 }
 
 -- 20 ms and 10 ms: stream 1 is the first that differs, and begins at place 3
-
-first_plain : SpelledStream
-first_plain = record { value = first; shape = shape_of 0 false 0; size = 3; tail = [] }
-
-short_plain : SpelledStream
-short_plain = record { value = short; shape = shape_of 0 false 0; size = 2; tail = [] }
-
-first_plain-packet : IsSelfDelimited first (shape_of 0 false 0) [] (0xF8 ∷ 0x01 ∷ 0xAA ∷ [])
-unfolding first header_bytes samples_of row_of
-first_plain-packet = record {
-  value = record { config = omega arith; some = omega arith; most = omega arith; each = (omega arith, tt); duration = omega arith };
-  suits = (refl, refl, refl);
-  padding = refl;
-  spelled = refl;
-}
-
-short_plain-packet : IsPacket short (shape_of 0 false 0) [] (0xF0 ∷ 0xBB ∷ [])
-unfolding short header_bytes samples_of row_of
-short_plain-packet = record {
-  value = record { config = omega arith; some = omega arith; most = omega arith; each = (omega arith, tt); duration = omega arith };
-  suits = (refl, refl, refl);
-  padding = refl;
-  spelled = refl;
-}
-
 unequal : HoldsUnequal 2 0 0 (0xF8 ∷ 0x01 ∷ 0xAA ∷ 0xF0 ∷ 0xBB ∷ []) (record_of 0 5 0 (Unequal 1 3) [] [])
-unfolding first_plain short_plain first short samples_of row_of
-unequal = record {
-  stream = 1;
-  unequal = record {
-    streams = first_plain ∷ short_plain ∷ [];
-    counted = refl;
-    are = record {
-      front = first_plain ∷ [];
-      last = short_plain;
-      rest = 0xF0 ∷ 0xBB ∷ [];
-      streams_are = refl;
-      stand = (record { within = omega arith; spelled = first_plain-packet }, refl);
-      ends = record { size_is = refl; spelled = short_plain-packet };
-    };
-    unequal = record { first = 960; other = 480; rest = []; some = omega arith; differs = (λ same. omega (arith, same)); are = refl };
-  };
-  shows = refl;
-}
+unfolding first_short-unequal first_plain short_plain first short
+unequal = record { stream = 1; unequal = first_short-unequal; shows = refl }
 
 -- nothing follows stream 0: its end tells stream 1 R1 at 0, at place 3
 nothing_follows : HoldsBroken 2 0 0 (0xF8 ∷ 0x01 ∷ 0xAA ∷ []) (record_of 0 3 0 (Broken 1 3 (fault R1 0)) [] [])

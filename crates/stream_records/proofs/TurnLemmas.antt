@@ -1,7 +1,7 @@
 -- How a record that is read in pieces goes on.
-use Rattle.std.proofs.Common.{◌≡◌, ℕ, ◌+◌, ◌-◌, ◌<◌, ◌≤◌, List, [], ◌∷◌, ◌++◌, length, take, drop, map, flat_map, Option, Some, None, inl, inr, refl, ap, sym, subst, ◌∙◌, arith, length-append, take_all}
+use Rattle.std.proofs.Common.{◌≡◌, ℕ, ◌+◌, ◌-◌, ◌<◌, ◌≤◌, List, [], ◌∷◌, ◌++◌, length, take, drop, map, flat_map, Option, Some, None, inl, inr, refl, ap, sym, subst, ◌∙◌, arith, length-append}
 use Rattle.std.proofs.lemmas.List.{map_push, length-map, length-take, append_assoc, append-nil, take-append-le, take-append-drop}
-use Rattle.std.proofs.Math.Seq.{take-append-add, take-append_seam, drop-length}
+use Rattle.std.proofs.Math.Seq.{take-append_seam, drop-length}
 use Rattle.opus_packet.specs.declared.fault.Fault.{Fault}
 use Rattle.opus_packet.specs.Value.{duration_of}
 use Rattle.opus_packet.specs.PacketPrefix.{AreBytes}
@@ -14,7 +14,7 @@ use Rattle.opus_feed.specs.declared.step.Step.TheVariants.{Done, Refused}
 use Rattle.opus_feed.specs.Feeds.{Stands}
 use Rattle.opus_feed.specs.Steps.{IsReading}
 use Rattle.opus_feed.specs.Answers.{Answers, Ends, IsRead}
-use Rattle.opus_multi.specs.Streams.{SpelledStream, BeginsWithStream, StandFirst}
+use Rattle.opus_multi.specs.Streams.{SpelledStream, StandFirst}
 use Rattle.opus_multi.specs.Multistream.{durations_of}
 use Rattle.opus_multi.specs.MultistreamFault.{framing_of}
 use Rattle.opus_multi.specs.StreamParts.{read_with}
@@ -23,7 +23,7 @@ use Rattle.opus_multi.specs.Told.{Says}
 use Rattle.opus_multi.specs.declared.durations.Durations.{Durations as MultiDurations}
 use Rattle.opus_multi.proofs.StreamsLemmas.{stand_more, stand_push, stand_bytes}
 use Rattle.opus_multi.proofs.ReadLemmas.{framing_more, told_other, unequal_within, length-durations}
-use Rattle.opus_multi.proofs.TurnLemmas.{reading_answer, told_push}
+use Rattle.opus_multi.proofs.TurnLemmas.{IsNext, next_is, reading_answer, told_push}
 use Rattle.pack_records.proofs.TakenLemmas.{answers_refuses, refused_at}
 use Rattle.stream_records.specs.declared.durations.Other.{Other}
 use Rattle.stream_records.specs.declared.durations.Durations.{Durations}
@@ -89,28 +89,6 @@ turn_refused old new f start bytes piece streams whole begun are answer r =
     }
 
 -- ---- a stream that ends
-
--- the bytes are the stream's packet, self-delimited, which was read so
-record IsNext (padding : Padding) (p : PacketRead) (bytes : List ℕ) : Type 0 where
-  stream : SpelledStream
-  begins : BeginsWithStream stream bytes
-  all : stream.size ≡ length bytes
-  is : p ≡ read_with padding stream
-
-next_is : (padding : Padding) (p : PacketRead) (rest piece : List ℕ) (used : ℕ) → IsRead SelfDelimited padding (rest ++ piece) p
-    → Ends (length rest) (rest ++ piece) (Done used) → used ≤ length piece → IsNext padding p (rest ++ take used piece)
-next_is padding p rest piece used read ends within =
-    let (q, spelled, inside, tail) = read in
-    let size : p.size ≡ length rest + used = ends p.value p.shape p.size (record { within = inside; spelled = (q, spelled) }) in
-    let front : take p.size (rest ++ piece) ≡ rest ++ take used piece = rw size (take-append-add rest piece used) in
-    let all : p.size ≡ length (rest ++ take used piece) = omega (arith, size, length-append rest (take used piece), length-take used piece, within) in
-    let first : take p.size (rest ++ take used piece) ≡ rest ++ take used piece = take_all p.size (rest ++ take used piece) (omega (arith, all)) in
-    record {
-      stream = record { value = p.value; shape = p.shape; size = p.size; tail = q };
-      begins = record { within = omega (arith, all); spelled = rw first (rw front at spelled) };
-      all = all;
-      is = rw (sym tail) refl;
-    }
 
 flat_push : {A : Type 0} (f : A → List ℕ) (xs : List A) (y : A) → flat_map f (xs ++ y ∷ []) ≡ flat_map f xs ++ f y
 flat_push f [] y = append-nil (f y)

@@ -23,7 +23,7 @@ use Rattle.stream_records.specs.declared.item.StreamsItem.{StreamsItem}
 use Rattle.stream_records.specs.declared.durations.Other.{Other}
 use Rattle.stream_records.specs.declared.stream_pieces.StreamPieces.{StreamPieces}
 use Rattle.stream_records.specs.Fits.{ItemFits}
-use Rattle.stream_records.specs.Holds.{Choices, record_of, sizes_of, held_as, spelling_of, ShowsEarly}
+use Rattle.stream_records.specs.Holds.{Choices, record_of, sizes_of, held_as, spelling_of}
 use Rattle.stream_records.specs.Spellings.{spelling_read}
 use Rattle.stream_records.specs.Told.{Told, stream_in, IsAdded}
 

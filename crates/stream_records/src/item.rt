@@ -3,7 +3,7 @@ ghost use Rattle.stream_records.specs.Fits.{ItemFits};
 
 use arrayvec::ArrayVec;
 use job_loop::Numbers;
-use opus_packet::{Fault, Shape};
+use opus_packet::{Fault, Packet, Shape, Tail};
 
 /// How the packet of one stream was spelled.
 #[derive(Clone, Copy, Debug, PartialEq, Eq)]
@@ -14,6 +14,25 @@ pub struct Spelling {
     pub size: u32,
     /// Padding bytes that weren't kept.
     pub dropped: u32,
+}
+
+impl Spelling {
+    ghost use Rattle.std.specs.Prelude.{◌≡◌};
+    ghost use Rattle.stream_records.specs.Spellings.{spelling_read};
+
+    /// How this packet was spelled.
+    pub(crate) fn of(packet: &Packet<'_>) -> Spelling
+        ensures { result ≡ spelling_read packet.now }
+    {
+        Spelling {
+            shape: packet.shape(),
+            size: packet.size(),
+            dropped: match packet.tail() {
+                Tail::Bytes(_) => 0,
+                Tail::Dropped(count) => count,
+            },
+        }
+    }
 }
 
 impl Default for Spelling {

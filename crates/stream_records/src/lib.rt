@@ -7,7 +7,6 @@
 
 mod demo;
 mod durations;
-mod form;
 mod item;
 pub mod laws;
 mod raw;

@@ -4,14 +4,13 @@ ghost use Rattle.opus_io.specs.Reader.{max_input};
 ghost use Rattle.opus_multi.specs.MultistreamFault.{framing_of};
 
 use crate::durations::Durations;
-use crate::form::{MOST_KEPT, append_form, spelling};
-use crate::item::{StreamsFound, StreamsItem};
+use crate::item::{Spelling, StreamsFound, StreamsItem};
 use arrayvec::ArrayVec;
 use job_loop::Lent;
 use opus_feed::{Feed, Framing, Padding, Step};
 use opus_io::NoMemory;
 use opus_packet::Fault;
-use pack_records::PayloadReader;
+use pack_records::{MOST_KEPT, PayloadReader, append_form};
 use std::alloc::Global;
 
 /// The multistream packet of one record. One feed serves all streams, one after another. All memory is taken by `new`.
@@ -143,7 +142,7 @@ impl StreamPieces {
         let k = self.item.streams.len();
         self.durations.add(k as u8, self.begun, packet.duration());
         append_form(framing, &packet, &mut self.kept);
-        self.item.streams.push(spelling(&packet));
+        self.item.streams.push(Spelling::of(&packet));
     }
 
     // The same where the packet of the last stream is whole.
@@ -195,7 +194,6 @@ impl StreamPieces {
         self.item.range = range;
         self.item.found = found;
     }
-
 }
 
 impl PayloadReader for StreamPieces {

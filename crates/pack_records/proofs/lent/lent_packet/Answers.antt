@@ -1,6 +1,5 @@
-use Rattle.std.proofs.Common.{◌≡◌, sym, ap, ◌∙◌, option_map, length}
+use Rattle.std.proofs.Common.{sym, ap, ◌∙◌, option_map, length}
 use Rattle.opus_packet.proofs.BytesLemmas.{AreBytes-from}
-use Rattle.opus_feed.specs.declared.framing.Framing.TheVariants.{Whole, SelfDelimited}
 use Rattle.pack_records.specs.Lent.{lent_value}
 use Rattle.pack_records.proofs.LentLemmas.{whole_told, self_told, self_none}
 use Rattle.pack_records.proofs.lent.lent_packet.Goals as goal
