@@ -1,0 +1,4 @@
+pub mod Groups
+pub use Rattle.opus_packet.specs.Value
+pub use Rattle.opus_packet.specs.Canonical
+pub use Rattle.opus_repack.specs.Collected
