@@ -1,0 +1,9 @@
+use Rattle.example_recorder.proofs.RecordLemmas.{None-begins}
+use Rattle.example_recorder.proofs.recorder.Recorder.new.Goals as goal
+
+pub returns : goal.returns
+returns c = record {
+  stands = c.in_ok-new.ensures.stands;
+  reading = c.in_ok-new.ensures.reading;
+  none = None-begins;
+}

@@ -1,0 +1,9 @@
+use Rattle.example_recorder.proofs.RecordLemmas.{None-begins}
+use Rattle.example_recorder.proofs.recorder.Recorder.restart.Goals as goal
+
+pub returns : goal.returns
+returns c = record {
+  stands = c.reset.ensures.stands;
+  reading = c.reset.ensures.reading;
+  none = None-begins;
+}

@@ -1,0 +1,5 @@
+pub mod Recorder
+pub use Rattle.opus_packet.specs.Value
+pub use Rattle.opus_packet.specs.Canonical
+pub use Rattle.opus_packet.specs.SelfGrammar
+pub use Rattle.rec_store.specs.DemoStore

@@ -1,0 +1,12 @@
+//! Self-delimited packets that come in pieces, kept as the records of an `opus_demo` store, over the public calls of opus_feed,
+//! opus_writer and rec_store (RFC 6716, Appendix B).
+#![tactic(auto)]
+
+mod record;
+mod recorder;
+#[cfg(test)]
+mod tests;
+mod took;
+
+pub use recorder::Recorder;
+pub use took::Took;
