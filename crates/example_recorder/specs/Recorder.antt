@@ -1,10 +1,8 @@
 -- What a recorder stands for, and what it makes of a piece: this project's own.
-use Rattle.std.specs.Prelude.{◌≡◌, ℕ, ◌+◌, ◌≤◌, List, [], ◌++◌, length}
-use Rattle.opus_packet.specs.declared.shape.Shape.{Shape}
+use Rattle.std.specs.Prelude.{◌≡◌, ℕ, ◌≤◌, List, [], ◌∷◌, ◌++◌, take}
 use Rattle.opus_packet.specs.declared.fault.Fault.{Fault}
 use Rattle.opus_packet.specs.Value.{PacketValue}
 use Rattle.opus_packet.specs.Canonical.{canonical}
-use Rattle.opus_packet.specs.SelfGrammar.{BeginsWithSelf}
 use Rattle.opus_packet.specs.SelfPrefix.{IsSelfDelimitedPrefix}
 use Rattle.opus_self.specs.BecomesSelf.{BeginsWithNone}
 use Rattle.opus_feed.specs.Packets.{Refuses}
@@ -12,37 +10,53 @@ use Rattle.opus_feed.specs.Steps.{IsReading}
 use Rattle.opus_feed.specs.Feeds.{Stands, HasFailed}
 use Rattle.opus_feed.specs.declared.framing.Framing.TheVariants.{SelfDelimited}
 use Rattle.rec_store.specs.DemoStore.{demo_record}
+use Rattle.example_recorder.specs.Stream.{IsStream}
 use Rattle.example_recorder.specs.declared.recorder.Recorder.{Recorder}
 use Rattle.example_recorder.specs.declared.took.Took.{Took}
 use Rattle.example_recorder.specs.declared.took.Took.TheVariants.{More, Record, Refused}
 
--- these bytes came since the last record that was appended, no packet stands first in them, and none was refused
-pub record RecorderStands (r : Recorder) (bytes : List ℕ) : Type 0 where
-  pub stands : Stands r.feed bytes
+-- These bytes came since it began, and spell these packets, which are recorded, and a rest. No packet stands first in the
+-- rest, and none was refused.
+pub record RecorderStands (r : Recorder) (bytes : List ℕ) (recorded : List PacketValue) : Type 0 where
+  pub rest : List ℕ
+  pub stream : IsStream recorded rest bytes
+  pub none : BeginsWithNone rest
+  pub stands : Stands r.feed rest
   pub reading : IsReading r.feed.place
-  pub none : BeginsWithNone bytes
 
 -- it refuses all that comes
 abbrev pub IsRefusing : Fault → Recorder → Type 0
 IsRefusing f r = HasFailed f r.feed
 
--- behind what came before, so many bytes of the piece end a packet: its record was appended, and the recorder begins anew
-pub record HasRecorded (came piece : List ℕ) (used : ℕ) (new : Recorder) (before after : List ℕ) : Type 0 where
+-- all of the piece came, and a packet can follow
+pub record HasWaited (bytes : List ℕ) (recorded : List PacketValue) (new : Recorder) (before after : List ℕ) : Type 0 where
+  pub stands : RecorderStands new bytes recorded
+  pub prefix : IsSelfDelimitedPrefix stands.rest
+  pub nothing : after ≡ before
+
+-- so many bytes of the piece came, at least one, and end a packet, whose record was appended
+pub record HasRecorded
+    (bytes : List ℕ) (recorded : List PacketValue) (used : ℕ) (new : Recorder) (before after : List ℕ) : Type 0 where
   pub value : PacketValue
-  pub shape : Shape
-  pub begins : BeginsWithSelf value shape (length came + used) (came ++ piece)
+  pub stands : RecorderStands new bytes (recorded ++ value ∷ [])
   pub some : 1 ≤ used
   pub appended : after ≡ before ++ demo_record 0 (canonical value)
-  pub stands : RecorderStands new []
 
--- Of what came since the last record and this piece: no packet stands first, and one can follow; or one stands first; or none
--- can follow, with the fault of these bytes.
-abbrev pub HasTaken : List ℕ → List ℕ → Took → Recorder → List ℕ → List ℕ → Type 0
-HasTaken came piece More new before after =
-    IsSelfDelimitedPrefix (came ++ piece) × RecorderStands new (came ++ piece) × (after ≡ before)
-HasTaken came piece (Record used) new before after = HasRecorded came piece used new before after
-HasTaken came piece (Refused f) new before after =
-    Refuses SelfDelimited f (came ++ piece) × IsRefusing f new × (after ≡ before)
+-- behind these packets no packet can begin, and the fault is that of the rest
+pub record HasRefused
+    (bytes : List ℕ) (recorded : List PacketValue) (f : Fault) (new : Recorder) (before after : List ℕ) : Type 0 where
+  pub rest : List ℕ
+  pub stream : IsStream recorded rest bytes
+  pub refuses : Refuses SelfDelimited f rest
+  pub refusing : IsRefusing f new
+  pub nothing : after ≡ before
+
+-- what a piece does behind these bytes, of which these packets are recorded
+abbrev pub HasTaken : List ℕ → List PacketValue → List ℕ → Took → Recorder → List ℕ → List ℕ → Type 0
+HasTaken bytes recorded piece More new before after = HasWaited (bytes ++ piece) recorded new before after
+HasTaken bytes recorded piece (Record used) new before after =
+    HasRecorded (bytes ++ take used piece) recorded used new before after
+HasTaken bytes recorded piece (Refused f) new before after = HasRefused (bytes ++ piece) recorded f new before after
 
 -- at most so many bytes were taken
 abbrev pub IsWithin : ℕ → Took → Type 0

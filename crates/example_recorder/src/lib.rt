@@ -2,6 +2,7 @@
 //! opus_writer and rec_store (RFC 6716, Appendix B).
 #![tactic(auto)]
 
+pub mod laws;
 mod record;
 mod recorder;
 #[cfg(test)]

@@ -18,11 +18,12 @@ pub struct Recorder {
 impl Recorder {
     ghost use Rattle.std.specs.Prelude.{◌≡◌, ℕ, List, [], length, IfOk, OnErr};
     ghost use Rattle.opus_packet.specs.declared.fault.Fault.{Fault as FaultValue};
+    ghost use Rattle.opus_packet.specs.Value.{PacketValue};
     ghost use Rattle.example_recorder.specs.Recorder.{RecorderStands, IsRefusing, HasTaken, IsWithin, Again};
 
     /// A recorder that took no bytes. All memory of its own is taken here.
     pub fn new(alloc: Global) -> Result<Recorder, NoMemory>
-        ensures { IfOk result (λ r. RecorderStands r []) }
+        ensures { IfOk result (λ r. RecorderStands r [] []) }
     {
         Ok(Recorder {
             feed: Feed::new(alloc, Framing::SelfDelimited, Padding::Drop)?,
@@ -32,8 +33,9 @@ impl Recorder {
     /// Takes the next bytes up to the end of a packet, and appends the record of a packet that is whole, with final range 0.
     /// After a refusal the answer stays the same up to `restart`. Where there is no memory, nothing changes.
     pub fn piece(&mut self, bytes: &[u8], out: &mut Vec<u8>) -> Result<Took, NoMemory>
-        ensures took { IfOk result (λ took. (came : List ℕ) → RecorderStands self.old came
-            → HasTaken came bytes.now took self.new out.old.items out.new.items) }
+        ensures took { IfOk result (λ took. (came : List ℕ) (recorded : List PacketValue)
+            → RecorderStands self.old came recorded
+            → HasTaken came recorded bytes.now took self.new out.old.items out.new.items) }
         ensures within { IfOk result (λ took. IsWithin (length bytes.now) took) }
         ensures again { IfOk result (λ took. (f : FaultValue) → IsRefusing f self.old
             → Again f self.old took self.new out.old.items out.new.items) }
@@ -54,7 +56,7 @@ impl Recorder {
 
     /// Forgets the bytes that came since the last record; the next piece begins with a packet.
     pub fn restart(&mut self)
-        ensures { RecorderStands self.new [] }
+        ensures { RecorderStands self.new [] [] }
     {
         self.feed.reset(Framing::SelfDelimited);
     }
