@@ -16,7 +16,7 @@ pub struct Recorder {
 }
 
 impl Recorder {
-    ghost use Rattle.std.specs.Prelude.{◌≡◌, ℕ, List, [], length, IfOk, OnErr};
+    ghost use Rattle.std.specs.Prelude.{◌≡◌, ℕ, ◌+◌, ◌<◌, List, [], length, vec_len, vec_capacity, IfOk, OnErr};
     ghost use Rattle.opus_packet.specs.declared.fault.Fault.{Fault as FaultValue};
     ghost use Rattle.opus_packet.specs.Value.{PacketValue};
     ghost use Rattle.example_recorder.specs.Recorder.{RecorderStands, IsRefusing, HasTaken, IsWithin, Again};
@@ -41,6 +41,7 @@ impl Recorder {
             → Again f self.old took self.new out.old.items out.new.items) }
         ensures kept { OnErr result (self.new ≡ self.old) }
         ensures err { OnErr result (out.new.items ≡ out.old.items) }
+        ensures full { OnErr result (vec_capacity out.old < vec_len out.old + MOST_RECORD) }
     {
         out.reserve(MOST_RECORD)?;
         match self.feed.feed(bytes) {
