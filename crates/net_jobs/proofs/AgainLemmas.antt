@@ -204,6 +204,11 @@ written_ends first packets sent =
       λ cut. cut.not_whole written_head records front,
     )
 
+pub sent_ends : (first : RtpFields) (packets : List (Option PacketValue)) → AreSent packets
+    → (rs : List (Shown Item)) × DumpEnds (capture_of first packets) rs None
+sent_ends first packets sent =
+    (shown_records (length dump_head_bytes) (captured_records first packets), written_ends first packets sent)
+
 -- so recv over the capture gives the store again
 pub sent_again : (first : RtpFields) (packets : List (Option PacketValue)) (rs : List (Shown Item)) (cut : Option StoreFault)
     → AreFields first → AreSent packets → BeginsAndEnds packets → length packets ≤ most_records

@@ -1,8 +1,8 @@
 //! Laws on the jobs over RTP: each is the contract of a function that does nothing.
-ghost use Rattle.std.specs.Prelude.{◌≡◌, ◌+◌, ◌*◌, ◌^◌, ◌<◌, ◌≤◌, ℕ, List, [], ◌∷◌, ◌++◌, map, Option, length};
+ghost use Rattle.std.specs.Prelude.{◌≡◌, ◌+◌, ◌*◌, ◌^◌, ◌<◌, ◌≤◌, ℕ, List, [], ◌∷◌, ◌++◌, map, Option, length, None};
 ghost use Rattle.std.specs.List.{AllByRecursion};
 ghost use Rattle.job_loop.specs.Shown.{Shown};
-ghost use Rattle.job_loop.specs.Meaning.{going, broke, end_of, outcome};
+ghost use Rattle.job_loop.specs.Meaning.{going, broke, end_of, runs, opened, outcome};
 ghost use Rattle.job_loop.specs.declared.input_end.InputEnd.{InputEnd};
 ghost use Rattle.job_loop.specs.declared.input_end.InputEnd.TheVariants as ends;
 ghost use Rattle.opus_packet.specs.Value.{PacketValue};
@@ -25,9 +25,10 @@ ghost use Rattle.net_jobs.specs.Send.{send, most_records};
 ghost use Rattle.rec_store.specs.declared.stop.StoreFault.{StoreFault};
 ghost use Rattle.dump_records.specs.declared.item.Item.{Item as Recorded};
 ghost use Rattle.dump_records.specs.declared.item.Found.TheVariants.{Bad};
-ghost use Rattle.rtp_ends.specs.Report.{arrival_report};
+ghost use Rattle.rtp_ends.specs.Report.{arrival_report, certain_events};
 ghost use Rattle.net_jobs.specs.declared.stream.Asked.{Asked};
 ghost use Rattle.net_jobs.specs.declared.events.Telling.{Telling};
+ghost use Rattle.net_jobs.specs.Tell.{events_text};
 ghost use Rattle.net_jobs.specs.Receive as refused;
 ghost use Rattle.dump_records.specs.Capture.{DumpSettles, DumpEnds};
 ghost use Rattle.rtp_packet.specs.RtpRead.{AreFields};
@@ -70,8 +71,12 @@ pub fn a_capture_has_the_packets_sent()
 {}
 
 /// What recv and replay write for records is the text of the report of all that arrived: of all records, or of those before
-/// the capture goes wrong, or is cut. No input within the limit has more records than they take.
+/// the capture goes wrong, or is cut. What they write for records before the input's end is the text of just the events that are
+/// certain then. No input within the limit has more records than they take.
 pub fn what_arrives_is_told_whole()
+    ensures settled { (telling : Telling) (asked : Asked) (rs : List (Shown Recorded)) → AreRecords rs
+        → length rs ≤ most_records → runs (receive telling asked) (opened (receive telling asked)) rs
+        ≡ going (events_text telling (certain_events (received asked rs).heard)) (received asked rs) }
     ensures closed { (telling : Telling) (asked : Asked) (rs : List (Shown Recorded)) → AreRecords rs
         → length rs ≤ most_records → outcome (receive telling asked) rs ends.Closed
         ≡ going (report_text telling (received asked rs)) tt }
@@ -98,8 +103,10 @@ pub fn each_record_is_counted_once()
 
 /// A store of packets that is sent is received again: recv, over the capture that send makes of packets and losses, writes
 /// each packet in its canonical form and as many lost records, all with range 0. The first and the last are packets, or there
-/// are none, and at most 32,767 lost ones stand one after the other.
+/// are none, and at most 32,767 lost ones stand one after the other. Such a capture has records, and isn't cut.
 pub fn what_is_sent_is_received_again()
+    ensures records { (first : RtpFields) (packets : List (Option PacketValue)) → AreSent packets
+        → (rs : List (Shown Recorded)) × DumpEnds (capture_of first packets) rs None }
     ensures store { (first : RtpFields) (packets : List (Option PacketValue)) (rs : List (Shown Recorded))
         (cut : Option StoreFault) → AreFields first → AreSent packets → BeginsAndEnds packets
         → length packets ≤ most_records → DumpEnds (capture_of first packets) rs cut

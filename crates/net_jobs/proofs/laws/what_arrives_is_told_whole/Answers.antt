@@ -1,6 +1,9 @@
 use Rattle.net_jobs.proofs.FewLemmas.{capture_few}
-use Rattle.net_jobs.proofs.ReportLemmas.{closed_whole, cut_whole, refused_whole}
+use Rattle.net_jobs.proofs.ReportLemmas.{runs_whole, closed_whole, cut_whole, refused_whole}
 use Rattle.net_jobs.proofs.laws.what_arrives_is_told_whole.Goals as goal
+
+pub returns-clause-settled : goal.returns-clause-settled
+returns-clause-settled c = runs_whole
 
 pub returns-clause-closed : goal.returns-clause-closed
 returns-clause-closed c = closed_whole
