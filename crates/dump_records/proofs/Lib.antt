@@ -3,3 +3,5 @@ pub mod EndLemmas
 pub mod FedLemmas
 pub mod LawLemmas
 pub mod StandLemmas
+pub mod KindLemmas
+pub mod SomeLemmas
