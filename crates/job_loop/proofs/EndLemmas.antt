@@ -24,6 +24,14 @@ pub end_within : {C : Type 0} → (cut : Option C) → end_of cut ≡ Past → �
 end_within None is = false≢true (ap is_past is)
 end_within (Some c) is = false≢true (ap is_past is)
 
+-- what the bytes themselves decide refuses nothing
+pub record Clear {R K C F : Type 0} (m : Meaning R K C F) (Settles : List ℕ → List R → Type 0) (input : List ℕ) : Type 0 where
+  pub decided : List R
+  pub before : List ℕ
+  pub kept : K
+  pub settled : Settles input decided
+  pub went : runs m (opened m) decided ≡ going before kept
+
 module _ {R K C F : Type 0} (m : Meaning R K C F) (Settles : List ℕ → List R → Type 0)
     (Ends : List ℕ → List R → Option C → Type 0) (place : R → ℕ) (limit : ℕ)
     (left left' before now new : Option (List ℕ)) (held : List ℕ) where
@@ -40,9 +48,9 @@ module _ {R K C F : Type 0} (m : Meaning R K C F) (Settles : List ℕ → List R
 
     -- the end of the input is told to the job
     pub closed_at_end : (input : List ℕ) (cut : Option C) → TakenAll limit left left' input → Ends input records cut
-        → (e : Ending F) → Closes e (end_of cut) (m.finish kept (end_of cut)) now new held
+        → Clear m Settles input → (e : Ending F) → Closes e (end_of cut) (m.finish kept (end_of cut)) now new held
         → Ran m Settles Ends place limit left left' before new held e
-    closed_at_end input cut taken ends endings.Ok how = record {
+    closed_at_end input cut taken ends clear endings.Ok how = record {
       input = input;
       records = records;
       cut = cut;
@@ -53,19 +61,24 @@ module _ {R K C F : Type 0} (m : Meaning R K C F) (Settles : List ℕ → List R
       written = Appends-trans before now new text how.0.text written how.0.written;
       handed_on = how.0.handed_on;
     }
-    closed_at_end input cut taken ends (endings.Refused f) how = inr (inl (record {
+    closed_at_end input cut taken ends clear (endings.Refused f) how = inr (inl (record {
       input = input;
+      decided = clear.decided;
+      before = clear.before;
+      kept = clear.kept;
       records = records;
       cut = cut;
       text = text ++ how.0.text;
       taken = taken;
+      settled = clear.settled;
+      went = clear.went;
       ends = ends;
       closed = at_end (end_of cut) ∙ ap (adds text) how.0.step_is;
       written = Appends-trans before now new text how.0.text written how.0.written;
       handed_on = how.1;
     }))
-    closed_at_end input cut taken ends endings.ReadFault how = absurd how
-    closed_at_end input cut taken ends endings.WriteFault how = inr (inl (record {
+    closed_at_end input cut taken ends clear endings.ReadFault how = absurd how
+    closed_at_end input cut taken ends clear endings.WriteFault how = inr (inl (record {
       input = input;
       records = records;
       cut = cut;
@@ -74,8 +87,8 @@ module _ {R K C F : Type 0} (m : Meaning R K C F) (Settles : List ℕ → List R
       written = subst (λ run. Front (run_text run) before new) (sym (at_end (end_of cut)))
           (step_front text (Unit {0}) (m.finish kept (end_of cut)) written how);
     }))
-    closed_at_end input cut taken ends endings.InputLimit how = absurd (end_within cut how.1)
-    closed_at_end input cut taken ends endings.NoMemory how = inr (inl (record {
+    closed_at_end input cut taken ends clear endings.InputLimit how = absurd (end_within cut how.1)
+    closed_at_end input cut taken ends clear endings.NoMemory how = inr (inl (record {
       input = input;
       records = records;
       cut = cut;
@@ -94,9 +107,12 @@ module _ {R K C F : Type 0} (m : Meaning R K C F) (Settles : List ℕ → List R
       front = front;
       behind = behind;
       records = records;
+      before = text;
+      kept = kept;
       text = text ++ how.0.text;
       taken = taken;
       settled = settled;
+      went = run;
       closed = at_end Past ∙ ap (adds text) how.0.step_is;
       written = Appends-trans before now new text how.0.text written how.0.written;
       handed_on = how.1;
@@ -185,23 +201,29 @@ module _ {R K C F : Type 0} (m : Meaning R K C F) (Settles : List ℕ → List R
 
     -- a record that the end of the input decides ends the run
     pub halted_at_end : (input : List ℕ) (cut : Option C) (last : R) → TakenAll limit left left' input
-        → Ends input (records ++ last ∷ []) cut → (e : Ending F) → Halts e (m.step kept last) now new held
+        → Settles input records → Ends input (records ++ last ∷ []) cut → (e : Ending F)
+        → Halts e (m.step kept last) now new held
         → Ran m Settles Ends place limit left left' before new held e
-    halted_at_end input cut last taken ends endings.Ok how = absurd how
-    halted_at_end input cut last taken ends (endings.Refused f) how = inr (inl (record {
+    halted_at_end input cut last taken settled ends endings.Ok how = absurd how
+    halted_at_end input cut last taken settled ends (endings.Refused f) how = inr (inl (record {
       input = input;
+      decided = records;
+      before = text;
+      kept = kept;
       records = records ++ last ∷ [];
       cut = cut;
       text = text ++ how.0.text;
       taken = taken;
+      settled = settled;
+      went = run;
       ends = ends;
       closed = ap (closes m (end_of cut))
           (runs-on m records last text kept run ∙ ap (adds text) how.0.step_is);
       written = Appends-trans before now new text how.0.text written how.0.written;
       handed_on = how.1;
     }))
-    halted_at_end input cut last taken ends endings.ReadFault how = absurd how
-    halted_at_end input cut last taken ends endings.WriteFault how = inr (inl (record {
+    halted_at_end input cut last taken settled ends endings.ReadFault how = absurd how
+    halted_at_end input cut last taken settled ends endings.WriteFault how = inr (inl (record {
       input = input;
       records = records ++ last ∷ [];
       cut = cut;
@@ -209,8 +231,8 @@ module _ {R K C F : Type 0} (m : Meaning R K C F) (Settles : List ℕ → List R
       ends = ends;
       written = last_text last (end_of cut) how;
     }))
-    halted_at_end input cut last taken ends endings.InputLimit how = absurd how
-    halted_at_end input cut last taken ends endings.NoMemory how = inr (inl (record {
+    halted_at_end input cut last taken settled ends endings.InputLimit how = absurd how
+    halted_at_end input cut last taken settled ends endings.NoMemory how = inr (inl (record {
       input = input;
       records = records ++ last ∷ [];
       cut = cut;

@@ -70,10 +70,15 @@ module _ {R K C F : Type 0} (m : Meaning R K C F) (Settles : List ℕ → List R
   })
   refused_inner f (inr (inl r)) = inr (inl (record {
     input = r.input;
+    decided = r.decided;
+    before = r.before;
+    kept = r.kept;
     records = r.records;
     cut = r.cut;
     text = r.text;
     taken = r.taken;
+    settled = r.settled;
+    went = r.went;
     ends = r.ends;
     closed = r.closed;
     written = appends_inner a b held held' r.text none r.handed_on r.written;
@@ -83,9 +88,12 @@ module _ {R K C F : Type 0} (m : Meaning R K C F) (Settles : List ℕ → List R
     front = r.front;
     behind = r.behind;
     records = r.records;
+    before = r.before;
+    kept = r.kept;
     text = r.text;
     taken = r.taken;
     settled = r.settled;
+    went = r.went;
     closed = r.closed;
     written = appends_inner a b held held' r.text none r.handed_on r.written;
     handed_on = refl;

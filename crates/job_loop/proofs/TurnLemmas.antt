@@ -11,7 +11,7 @@ use Rattle.job_loop.specs.Meaning.{Meaning, goes, adds, end_of}
 use Rattle.job_loop.specs.Telling.{Goes, Halts, Closes, ending_of}
 use Rattle.job_loop.specs.Turns.{Moved, Empty, Full, Within}
 use Rattle.job_loop.specs.Ran.{TakenAll, RanUnread, Ran}
-use Rattle.job_loop.proofs.EndLemmas.{closed_at_end, closed_past, halted_at, halted_at_end, stopped_at}
+use Rattle.job_loop.proofs.EndLemmas.{Clear, closed_at_end, closed_past, halted_at, halted_at_end, stopped_at}
 use Rattle.job_loop.proofs.Reached.{Reached, moved_consumed, moved_size, within_moved, taken_at, taken_all, taken_unread, taken_past}
 use Rattle.job_loop.proofs.RunLemmas.{runs-on, meant, meant_end}
 
@@ -81,7 +81,10 @@ module _ {R K C F : Type 0} {m : Meaning R K C F} {Stands : List ℕ → List R 
         (placed ∙ sym size) settled e halted
 
   -- the input is over
-  module _ (empty : Empty k new) (at_end : IsAtEnd source) (cut : Option C) where
+  module _ (empty : Empty k new) (at_end : IsAtEnd source) (settled : Settles p.front p.records) (cut : Option C) where
+    clear : Clear m Settles p.front
+    clear = record { decided = p.records; before = p.text; kept = p.kept; settled = settled; went = p.run }
+
     all_taken : TakenAll limit left source p.front
     all_taken = taken_all limit k left source p.front p.consumed p.size within limit_is
         (subst (λ (k : ReaderState). k.bytes ≡ []) empty.same empty.none) at_end
@@ -91,7 +94,7 @@ module _ {R K C F : Type 0} {m : Meaning R K C F} {Stands : List ℕ → List R 
         → Ran m Settles Ends place limit left source before after held e
     turn_ended ends end is e closes =
         closed_at_end m Settles Ends place limit left source before now after held p.records p.text p.kept p.run
-        p.written p.front cut all_taken ends e
+        p.written p.front cut all_taken ends clear e
         (meant_end m' m (λ end s. Closes e end s now after held) p.kept end (end_of cut) meaning is closes)
 
     -- and decides one more record, which ends the run
@@ -99,7 +102,7 @@ module _ {R K C F : Type 0} {m : Meaning R K C F} {Stands : List ℕ → List R 
         → Ends p.front (p.records ++ r' ∷ []) cut → Ran m Settles Ends place limit left source before after held e
     turn_halted_last r r' same e halts ends =
         halted_at_end m Settles Ends place limit left source before now after held p.records p.text p.kept p.run
-        p.written p.front cut r' all_taken ends e (halted r r' same e halts)
+        p.written p.front cut r' all_taken settled ends e (halted r r' same e halts)
 
     -- or which the job takes, and then the end
     pub turn_ended_last : (mid : Option (List ℕ)) (Job' : K → Type 0) (r r' : R) → r ≡ r'
@@ -112,5 +115,5 @@ module _ {R K C F : Type 0} {m : Meaning R K C F} {Stands : List ℕ → List R 
         (p.text ++ went.text) went.kept
         (runs-on m p.records r' p.text p.kept p.run ∙ ap (adds p.text)
         (meant m' m (λ s. s ≡ goes went.text went.kept) p.kept r r' meaning same went.step_is))
-        (Appends-trans before now mid p.text went.text p.written went.written) p.front cut all_taken ends e
+        (Appends-trans before now mid p.text went.text p.written went.written) p.front cut all_taken ends clear e
         (meant_end m'' m (λ end s. Closes e end s mid after held) went.kept end (end_of cut) (meaning' ∙ meaning) is closes)

@@ -86,26 +86,34 @@ module _ {R K C F : Type 0} (m : Meaning R K C F) (Settles : List ℕ → List R
     pub written : Appends old new text
     pub handed_on : held ≡ []
 
-  -- the end of the input is refused, or a record that it decides
+  -- the end of the input is refused, or a record that it decides; what the bytes themselves decide refuses nothing
   pub record RefusedAtEnd (refusal : F) : Type 0 where
     pub input : List ℕ
+    pub decided : List R
+    pub before : List ℕ
+    pub kept : K
     pub records : List R
     pub cut : Option C
     pub text : List ℕ
     pub taken : TakenAll limit left left' input
+    pub settled : Settles input decided
+    pub went : runs m (opened m) decided ≡ going before kept
     pub ends : Ends input records cut
     pub closed : outcome m records (end_of cut) ≡ broke text refusal
     pub written : Appends old new text
     pub handed_on : held ≡ []
 
-  -- an input that goes on past the limit is refused for what its bytes up to the limit settle
+  -- an input is refused for going on past the limit; what its bytes up to the limit settle refuses nothing
   pub record RefusedPast (refusal : F) : Type 0 where
     pub front : List ℕ
     pub behind : List ℕ
     pub records : List R
+    pub before : List ℕ
+    pub kept : K
     pub text : List ℕ
     pub taken : TakenPast limit left left' front behind
     pub settled : Settles front records
+    pub went : runs m (opened m) records ≡ going before kept
     pub closed : outcome m records Past ≡ broke text refusal
     pub written : Appends old new text
     pub handed_on : held ≡ []

@@ -148,8 +148,7 @@ returns-in-Err-read-clause-ran g c = λ before opens.
     (g.J.RecordJob.meaning c.records.job) i.meaning (g.O.Sink.contents c.flush.new.self) (g.O.Gather.held c.flush.new.self)
     e.moves.0 c.read.new.self.reader (g.S.Source.left c.read.new.source) r.stays.coming r.failed
     (subst (λ l. g.F.Form.settles l p.front p.records) (e.same ∙ i.layout)
-    (g.met.F.Form.settled c.next.new.self.form p.front p.records (e.turn p.front p.records p.stands p.size)))
-    f.keeps f.empty
+    (g.met.F.Form.settled c.next.new.self.form p.front p.records (e.turn p.front p.records p.stands p.size))) f.keeps f.empty
 
 pub records-preserved : goal.records-preserved
 records-preserved g c =
@@ -179,8 +178,7 @@ records-preserved g c =
           reached_read (g.J.RecordJob.meaning c.args.job.now) (g.F.Form.stands c.records.records.form)
           (g.F.Form.stands c.read.new.self.form) (g.J.RecordJob.stands c.records.job) (g.J.RecordJob.stands c.records.job)
           left before (g.O.Sink.contents c.records.out) (g.O.Sink.contents c.flush.new.self) old new source source' p
-          (subst (λ f. g.F.Form.stands f p.front p.records) (sym r.form) (e.turn p.front p.records p.stands p.size))
-          f.keeps
+          (subst (λ f. g.F.Form.stands f p.front p.records) (sym r.form) (e.turn p.front p.records p.stands p.size)) f.keeps
           (subst (λ (k : ReaderState). Keeps (coming k source) (coming new source')) same r.stays.coming)
           (r.stays.passed ∙ ap (λ (k : ReaderState). k.passed) same);
     }
@@ -208,8 +206,7 @@ returns-in-Past-clause-ran g c = λ before opens.
     turn_past (g.F.Form.settles l) (g.F.Form.ends l) g.F.Form.place c.args.records.now.reader.limit
     (g.S.Source.left c.records.source) c.records.records.reader c.next.new.self.reader i.within i.limit p
     (g.J.RecordJob.meaning c.records.job) i.meaning (g.O.Sink.contents c.close.new.out) (g.O.Gather.held c.close.new.out)
-    e.moves
-    (subst (λ l. g.F.Form.settles l p.front p.records) (e.same ∙ i.layout)
+    e.moves (subst (λ l. g.F.Form.settles l p.front p.records) (e.same ∙ i.layout)
     (g.met.F.Form.settled c.next.new.self.form p.front p.records (e.turn p.front p.records p.stands p.size)))
     c.close.result (c.close.ensures.closes p.kept p.job)
 
@@ -222,8 +219,7 @@ returns-in-NoMemory-clause-ran g c = λ before opens.
     (g.S.Source.left c.records.source) c.records.records.reader c.next.new.self.reader i.within i.limit p
     (g.J.RecordJob.meaning c.records.job) i.meaning (g.O.Sink.contents c.records.out) (g.O.Gather.held c.records.out)
     (subst (λ l. g.F.Form.settles l p.front p.records) i.layout
-    (g.met.F.Form.settled c.records.records.form p.front p.records p.stands))
-    (Keeps-refl (g.O.Sink.contents c.records.out)) NoMemory endings.NoMemory refl
+    (g.met.F.Form.settled c.records.records.form p.front p.records p.stands)) (Keeps-refl _) NoMemory endings.NoMemory refl
 
 pub returns-in-End-clause-ran : goal.returns-in-End-clause-ran
 returns-in-End-clause-ran g c = λ before opens.
@@ -235,7 +231,8 @@ returns-in-End-clause-ran g c = λ before opens.
     turn_ended (g.F.Form.settles l) (g.F.Form.ends l) g.F.Form.place c.args.records.now.reader.limit
     (g.S.Source.left c.records.source) c.records.records.reader c.next.new.self.reader i.within i.limit p
     (g.J.RecordJob.meaning c.records.job) i.meaning (g.O.Sink.contents close.new.out) (g.O.Gather.held close.new.out)
-    e.moves.0 (i.end e.moves.1) c.in-End.cut
+    e.moves.0 (i.end e.moves.1) (subst (λ l. g.F.Form.settles l p.front p.records) i.layout
+    (g.met.F.Form.settled c.records.records.form p.front p.records p.stands)) c.in-End.cut
     (subst (λ l. g.F.Form.ends l p.front p.records c.in-End.cut) i.layout (e.turn p.front p.records p.stands p.size))
     c.end_of.result c.end_of.ensures close.result (close.ensures.closes p.kept p.job)
 
@@ -250,8 +247,9 @@ returns-in-Err-hand-clause-ran g c = λ before opens.
     turn_halted_last (g.F.Form.settles l) (g.F.Form.ends l) g.F.Form.place c.args.records.now.reader.limit
     (g.S.Source.left c.records.source) c.records.records.reader c.next.new.self.reader i.within i.limit p
     (g.J.RecordJob.meaning c.records.job) i.meaning (g.O.Sink.contents hand.new.out) (g.O.Gather.held hand.new.out)
-    e.moves.0 (i.end e.moves.1) c.in-Last.cut c.record-in-Last.result r c.record-in-Last.ensures.is
-    c.in-Err-hand.ending (c.in-Err-hand.ensures.halt p.kept p.job)
+    e.moves.0 (i.end e.moves.1) (subst (λ l. g.F.Form.settles l p.front p.records) i.layout
+    (g.met.F.Form.settled c.records.records.form p.front p.records p.stands)) c.in-Last.cut c.record-in-Last.result r
+    c.record-in-Last.ensures.is c.in-Err-hand.ending (c.in-Err-hand.ensures.halt p.kept p.job)
     (subst (λ l. g.F.Form.ends l p.front (p.records ++ r ∷ []) c.in-Last.cut) i.layout
     (e.turn p.front p.records p.stands p.size))
 
@@ -269,8 +267,9 @@ returns-in-Last-clause-ran g c = λ before opens.
     turn_ended_last (g.F.Form.settles l) (g.F.Form.ends l) g.F.Form.place c.args.records.now.reader.limit
     (g.S.Source.left c.records.source) c.records.records.reader c.next.new.self.reader i.within i.limit p
     (g.J.RecordJob.meaning c.records.job) i.meaning (g.O.Sink.contents close.new.out) (g.O.Gather.held close.new.out)
-    e.moves.0 (i.end e.moves.1) c.in-Last.cut (g.O.Sink.contents hand.new.out) (g.J.RecordJob.stands hand.new.job)
-    c.record-in-Last.result r c.record-in-Last.ensures.is went
+    e.moves.0 (i.end e.moves.1) (subst (λ l. g.F.Form.settles l p.front p.records) i.layout
+    (g.met.F.Form.settled c.records.records.form p.front p.records p.stands)) c.in-Last.cut (g.O.Sink.contents hand.new.out)
+    (g.J.RecordJob.stands hand.new.job) c.record-in-Last.result r c.record-in-Last.ensures.is went
     (subst (λ l. g.F.Form.ends l p.front (p.records ++ r ∷ []) c.in-Last.cut) i.layout
     (e.turn p.front p.records p.stands p.size))
     (g.J.RecordJob.meaning hand.new.job) h.same c.end_of-in-Last.result c.end_of-in-Last.ensures close.result
