@@ -9,5 +9,6 @@ mod recorder;
 mod tests;
 mod took;
 
+pub use record::MOST_RECORD;
 pub use recorder::Recorder;
 pub use took::Took;

@@ -8,7 +8,7 @@ use opus_writer::{canon_size, write_canon};
 use rec_store::demo_head;
 
 /// Bytes that suffice for each record: eight of its head, and the longest canonical form.
-pub(crate) const MOST_RECORD: usize = 61_303;
+pub const MOST_RECORD: usize = 61_303;
 
 /// Appends the record of the packet's canonical form, with final range 0.
 pub(crate) fn append_record(packet: &Packet<'_>, out: &mut Vec<u8>)
