@@ -9,8 +9,10 @@ use std::test::Fail;
 
 mod capture;
 mod check;
+mod cuts;
 mod head;
 mod lines;
+mod long;
 mod make;
 mod merge;
 mod norm;
@@ -50,8 +52,8 @@ pub(crate) fn unfailing(step: usize) -> Around<'static> {
     }
 }
 
-// The note's line.
-fn line_of(alloc: Global, text: &str) -> Result<Vec<u8>, Fail> {
+/// The note's line.
+pub(crate) fn line_of(alloc: Global, text: &str) -> Result<Vec<u8>, Fail> {
     if text.is_empty() {
         return Ok(Vec::new(alloc));
     }

@@ -19,8 +19,9 @@ static SHOWN: [Good; 3] = [
     ),
 ];
 
-// A capture of seven records: one is RTCP, two came in swapped order, one was cut, and the last repeats the one before it.
-const CAPTURE: &[u8] = b"#!rtpplay1.0 10.0.0.5/5004\n\0\0\0\0\0\0\0\0\x0a\0\0\x05\x13\x8c\0\0\
+/// A capture of seven records: one is RTCP, two came in swapped order, one was cut, and the last repeats the one before it.
+pub(crate) const CAPTURE: &[u8] =
+    b"#!rtpplay1.0 10.0.0.5/5004\n\0\0\0\0\0\0\0\0\x0a\0\0\x05\x13\x8c\0\0\
 \0\x18\0\x10\0\0\0\0\x80\x6f\x03\xe8\0\0\0\0\x12\x34\xab\xcd\xfc\x01\x02\x03\
 \0\x10\0\0\0\0\0\x05\x80\xc9\0\x01\x12\x34\xab\xcd\
 \0\x23\0\x1b\0\0\0\x28\x91\x6f\x03\xea\0\0\x07\x80\x12\x34\xab\xcd\0\0\0\x07\xbe\xde\0\x01\x10\xff\0\0\xfc\x04\x05\
@@ -29,15 +30,13 @@ const CAPTURE: &[u8] = b"#!rtpplay1.0 10.0.0.5/5004\n\0\0\0\0\0\0\0\0\x0a\0\0\x0
 \0\x18\0\x10\0\0\0\x50\xa0\x6f\x03\xec\0\0\x0f\0\x12\x34\xab\xcd\xfc\x08\0\x02\
 \0\x16\0\x0e\0\0\0\x51\x80\x6f\x03\xec\0\0\x0f\0\x12\x34\xab\xcd\xfc\x09";
 
-static STORED: [Good; 1] = [(
-    CAPTURE,
-    b"\0\0\0\x04\0\0\0\0\xfc\x01\x02\x03\0\0\0\x02\0\0\0\0\xfc\x06\0\0\0\x03\0\0\0\0\xfc\x04\x05\0\0\0\0\0\0\0\0\0\0\0\x02\0\0\0\0\xfc\x08",
-)];
+/// The payloads of its packets as a store, a lost record for the one that was cut.
+pub(crate) const PAYLOADS: &[u8] =
+    b"\0\0\0\x04\0\0\0\0\xfc\x01\x02\x03\0\0\0\x02\0\0\0\0\xfc\x06\0\0\0\x03\0\0\0\0\xfc\x04\x05\0\0\0\0\0\0\0\0\0\0\0\x02\0\0\0\0\xfc\x08";
 
-static REPLAYED: [Good; 1] = [(
-    CAPTURE,
-    b"packet 1000 stamp 0 bytes 4\npacket 1001 stamp 960 bytes 2\npacket 1002 stamp 1920 bytes 3\ngap 1003 count 1\npacket 1004 stamp 3840 bytes 2\nrecords 7 rtcp 1 cut 1 bad 0 other 0 repeats 1 packets 4 missing 1\n",
-)];
+/// Its packets and what is missing, a line each, and what became of its records.
+pub(crate) const EVENTS: &[u8] =
+    b"packet 1000 stamp 0 bytes 4\npacket 1001 stamp 960 bytes 2\npacket 1002 stamp 1920 bytes 3\ngap 1003 count 1\npacket 1004 stamp 3840 bytes 2\nrecords 7 rtcp 1 cut 1 bad 0 other 0 repeats 1 packets 4 missing 1\n";
 
 static PRINTED: [Good; 3] = [
     (
@@ -52,8 +51,8 @@ static PRINTED: [Good; 3] = [
 fn show_recv_replay_and_sdp_write_what_they_read(rt: HostRuntime) -> Result<(), Fail> {
     let alloc = rt.alloc();
     assert!(rt; all_done(alloc, &["show"], &SHOWN)?);
-    assert!(rt; all_done(alloc, &["recv"], &STORED)?);
-    assert!(rt; all_done(alloc, &["replay"], &REPLAYED)?);
+    assert!(rt; all_done(alloc, &["recv"], &[(CAPTURE, PAYLOADS)])?);
+    assert!(rt; all_done(alloc, &["replay"], &[(CAPTURE, EVENTS)])?);
     assert!(rt; all_done(alloc, &["sdp"], &PRINTED)?);
     Ok(())
 }

@@ -17,7 +17,8 @@ const SELF: &[&str] = &["merge", "--form", "self"];
 
 const SELF_TWOS: &[&str] = &["merge", "--form", "self", "--group", "2"];
 
-const THREE: &[u8] =
+/// Three packets with ranges of their own.
+pub(crate) const THREE: &[u8] =
     b"\0\0\0\x02\0\0\0\x01\xf8\xaa\0\0\0\x02\0\0\0\x02\xf8\xbb\0\0\0\x02\0\0\0\x03\xf8\xcc";
 
 const SEVEN: &[u8] =

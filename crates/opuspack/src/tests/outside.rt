@@ -1,7 +1,10 @@
-//! Long inputs, limits, and faults of the outside.
-use super::{Around, status_of, unfailing};
-use crate::run::max_input;
+//! Faults of the outside at every place: each read, each write and each write of the note fails in turn.
+use super::lines::{CAPTURE, EVENTS, PAYLOADS};
+use super::merge::THREE;
+use super::{Around, line_of, status_of, unfailing, words_of};
+use crate::run::{max_input, run};
 use crate::status::Status;
+use opus_io::{EndlessSource, MemorySink, MemorySource};
 use std::alloc::Global;
 use std::test::Fail;
 
@@ -11,124 +14,127 @@ const SELF: &[&str] = &["norm", "--form", "self"];
 
 const DEMO: &[&str] = &["norm", "--form", "demo"];
 
-const HEAD: &[&str] = &["head"];
+const STREAMS: &[&str] = &["norm", "--streams", "2"];
 
 const CHECK: &[&str] = &["check", "--form", "demo"];
 
-const SEND: &[&str] = &["send"];
-
-// A store of three records with one packet.
-const THREE: &[u8] =
-    b"\x00\x00\x00\x02\x00\x00\x00\x00\xf8\xaa\x00\x00\x00\x02\x00\x00\x00\x00\xf8\xaa\x00\x00\x00\x02\x00\x00\x00\x00\xf8\xaa";
-
-// A store of three records with packets and ranges of their own.
-const DIFFERENT: &[u8] =
-    b"\0\0\0\x02\0\0\0\x01\xf8\xaa\0\0\0\x02\0\0\0\x02\xf8\xbb\0\0\0\x02\0\0\0\x03\xf8\xcc";
-
 // A store whose second record is bad behind two of its ten payload bytes.
-const BAD: &[u8] =
-    b"\x00\x00\x00\x02\x00\x00\x00\x00\xf8\xaa\x00\x00\x00\x0a\x00\x00\x00\x00\xfb\x07\x00\x00\x00\x00";
+const BAD: &[u8] = b"\0\0\0\x02\0\0\0\0\xf8\xaa\0\0\0\x0a\0\0\0\0\xfb\x07\0\0\0\0";
 
 // The capture of the packets of THREE.
-const THREE_SENT: &[u8] =
-    b"#!rtpplay1.0 0.0.0.0/0\n\0\0\0\0\0\0\0\0\0\0\0\0\0\0\0\0\x00\x16\x00\x0e\0\0\0\0\x80\x60\x00\x00\0\0\0\0\0\0\0\0\xf8\xaa\x00\x16\x00\x0e\0\0\0\x14\x80\x60\x00\x01\0\0\x03\xc0\0\0\0\0\xf8\xaa\x00\x16\x00\x0e\0\0\0\x28\x80\x60\x00\x02\0\0\x07\x80\0\0\0\0\xf8\xaa";
+const SENT: &[u8] =
+    b"#!rtpplay1.0 0.0.0.0/0\n\0\0\0\0\0\0\0\0\0\0\0\0\0\0\0\0\0\x16\0\x0e\0\0\0\0\x80\x60\0\0\0\0\0\0\0\0\0\0\xf8\xaa\0\x16\0\x0e\0\0\0\x14\x80\x60\0\x01\0\0\x03\xc0\0\0\0\0\xf8\xbb\0\x16\0\x0e\0\0\0\x28\x80\x60\0\x02\0\0\x07\x80\0\0\0\0\xf8\xcc";
 
-/// Words, an input, its whole output, and how many bytes of it stand when 0, 1, 2, .. bytes of the input came.
+// A head with a matrix of one number.
+const HEAD: &[u8] = b"OpusHead\x01\x01\0\0\0\0\0\0\0\0\x03\x01\0\0\x80";
+
+const HEAD_LINES: &[u8] =
+    b"version 1\nchannels 1\npreskip 0\nrate 0\ngain 0\nfamily 3\nstreams 1\ncoupled 0\nchannel 0: matrix\nmatrix: -32768\n";
+
+const FMTP: &[u8] = b"a=fmtp:111 useinbandfec=1; maxplaybackrate=16000;minptime=10";
+
+const FMTP_LINE: &[u8] = b"a=fmtp:111 maxplaybackrate=16000;useinbandfec=1;minptime=10\n";
+
+const RTPMAP_LINE: &[u8] = b"a=rtpmap:111 opus/48000/2\n";
+
+/// Words, an input and its whole output; then from how many bytes of the input on how many of the output stand though
+/// the next read fails.
 type Settled = (
     &'static [&'static str],
     &'static [u8],
     &'static [u8],
-    &'static [usize],
+    &'static [(usize, usize)],
 );
 
-static SETTLED: [Settled; 9] = [
+// What the end of the input alone could change doesn't stand: a raw packet, an open group, a line without its newline, a
+// head, an event that a late packet may come before.
+static SETTLED: [Settled; 21] = [
     (
         NORM,
         b"\xfa\x02\xaa\xbb\xcc\xdd",
         b"\xf9\xaa\xbb\xcc\xdd",
-        &[0; 7],
+        &[],
     ),
     (
         SELF,
-        b"\xf8\x02\xaa\xbb\xf8\x00",
-        b"\xf8\x02\xaa\xbb\xf8\x00",
-        &[0, 0, 0, 0, 4, 4, 6],
+        b"\xf8\x02\xaa\xbb\xf8\0",
+        b"\xf8\x02\xaa\xbb\xf8\0",
+        &[(4, 4), (6, 6)],
     ),
     (
-        DEMO,
-        THREE,
-        THREE,
-        &[
-            0, 0, 0, 0, 0, 0, 0, 0, 0, 0, 10, 10, 10, 10, 10, 10, 10, 10, 10, 10, 20, 20, 20, 20,
-            20, 20, 20, 20, 20, 20, 30,
-        ],
+        SELF,
+        b"\xfb\x41\x01\x02\xaa\xbb\0",
+        b"\xf8\x02\xaa\xbb",
+        &[(7, 4)],
     ),
+    (SELF, b"\xf8\x02\xaa", b"", &[]),
+    (
+        STREAMS,
+        b"\xfb\x41\x01\x01\xaa\0\xfb\x01\xbb",
+        b"\xf8\x01\xaa\xf8\xbb",
+        &[],
+    ),
+    (STREAMS, b"\xf8\x01\xaa\xf0\xbb", b"", &[]),
+    (STREAMS, b"\xf8\x01\xaa", b"", &[]),
+    (DEMO, THREE, THREE, &[(10, 10), (20, 20), (30, 30)]),
     (
         &["merge"],
-        DIFFERENT,
+        THREE,
         b"\0\0\0\x05\0\0\0\x03\xfb\x03\xaa\xbb\xcc",
-        &[0; 31],
+        &[],
     ),
     (
         &["merge", "--group", "2"],
-        DIFFERENT,
+        THREE,
         b"\0\0\0\x03\0\0\0\x02\xf9\xaa\xbb\0\0\0\x02\0\0\0\x03\xf8\xcc",
-        &[
-            0, 0, 0, 0, 0, 0, 0, 0, 0, 0, 0, 0, 0, 0, 0, 0, 0, 0, 0, 0, 11, 11, 11, 11, 11, 11, 11,
-            11, 11, 11, 11,
-        ],
+        &[(20, 11)],
     ),
     (
         &["split", "--frames", "2"],
-        b"\x00\x00\x00\x05\x00\x00\x00\x07\xfb\x03\xaa\xbb\xcc",
-        b"\x00\x00\x00\x03\x00\x00\x00\x00\xf9\xaa\xbb\x00\x00\x00\x02\x00\x00\x00\x07\xf8\xcc",
-        &[0, 0, 0, 0, 0, 0, 0, 0, 0, 0, 0, 0, 0, 21],
+        b"\0\0\0\x05\0\0\0\x07\xfb\x03\xaa\xbb\xcc",
+        b"\0\0\0\x03\0\0\0\0\xf9\xaa\xbb\0\0\0\x02\0\0\0\x07\xf8\xcc",
+        &[(13, 21)],
     ),
+    (CHECK, BAD, b"0 ok\n1 R5 at 1\n", &[(10, 5), (20, 15)]),
     (
-        CHECK,
-        BAD,
-        b"0 ok\n1 R5 at 1\n",
-        &[
-            0, 0, 0, 0, 0, 0, 0, 0, 0, 0, 5, 5, 5, 5, 5, 5, 5, 5, 5, 5, 15, 15, 15, 15, 15,
-        ],
-    ),
-    (
-        SEND,
+        &["send"],
         THREE,
-        THREE_SENT,
-        &[
-            39, 39, 39, 39, 39, 39, 39, 39, 39, 39, 61, 61, 61, 61, 61, 61, 61, 61, 61, 61, 83, 83,
-            83, 83, 83, 83, 83, 83, 83, 83, 105,
-        ],
+        SENT,
+        &[(0, 39), (10, 61), (20, 83), (30, 105)],
     ),
-    (
-        HEAD,
-        b"OpusHead\x01\x01\x00\x00\x00\x00\x00\x00\x00\x00\x03\x01\x00\x00\x80",
-        b"version 1\nchannels 1\npreskip 0\nrate 0\ngain 0\nfamily 3\nstreams 1\ncoupled 0\nchannel 0: matrix\nmatrix: -32768\n",
-        &[0; 24],
-    ),
+    (&["recv"], CAPTURE, PAYLOADS, &[]),
+    (&["replay"], CAPTURE, EVENTS, &[]),
+    (&["sdp"], FMTP, FMTP_LINE, &[]),
+    (&["sdp"], FMTP_LINE, FMTP_LINE, &[(60, 60)]),
+    (&["sdp"], b"a=fmtp:111 stereo=2", b"", &[]),
+    (&["sdp"], b"a=rtpmap:111 opus/48000/2", RTPMAP_LINE, &[]),
+    (&["sdp"], RTPMAP_LINE, RTPMAP_LINE, &[(26, 26)]),
+    (&["head"], HEAD, HEAD_LINES, &[]),
 ];
 
-// Whether each read that fails leaves exactly what the bytes before it settle.
-fn all_reads_met(alloc: Global, row: &Settled) -> Result<bool, Fail> {
-    let (words, input, output, settled) = row;
-    for (taken, stands) in settled.iter().enumerate() {
-        if *stands > output.len() {
-            return Ok(false);
+// The bytes that stand when so many bytes of the input came.
+fn standing<'a>(output: &'a [u8], steps: &[(usize, usize)], taken: usize) -> Option<&'a [u8]> {
+    let mut stands = 0;
+    for (from, count) in steps {
+        if *from <= taken {
+            stands = *count;
         }
-        let fails = [taken as u64 + 1];
+    }
+    output.get(..stands)
+}
+
+// Whether each read that fails, the one behind the last byte too, leaves exactly what the bytes before it settle.
+fn all_reads_met(alloc: Global, row: &Settled) -> Result<bool, Fail> {
+    let (words, input, output, steps) = row;
+    for taken in 0..=input.len() {
+        let Some(stands) = standing(output, steps, taken) else {
+            return Ok(false);
+        };
         let around = Around {
-            reads: &fails,
+            reads: &[taken as u64 + 1],
             ..unfailing(1)
         };
-        let ended = status_of(
-            alloc,
-            words,
-            input,
-            &around,
-            &output[..*stands],
-            "read fault",
-        )?;
+        let ended = status_of(alloc, words, input, &around, stands, "read fault")?;
         if ended != Some(Status::ReadFault) {
             return Ok(false);
         }
@@ -140,20 +146,13 @@ fn all_reads_met(alloc: Global, row: &Settled) -> Result<bool, Fail> {
 fn all_writes_met(alloc: Global, row: &Settled) -> Result<bool, Fail> {
     let (words, input, output, _) = row;
     for written in 0..output.len() {
-        let fails = [written as u64 + 1];
         let around = Around {
             room: 1,
-            writes: &fails,
+            writes: &[written as u64 + 1],
             ..unfailing(1)
         };
-        let ended = status_of(
-            alloc,
-            words,
-            input,
-            &around,
-            &output[..written],
-            "write fault",
-        )?;
+        let stands = &output[..written];
+        let ended = status_of(alloc, words, input, &around, stands, "write fault")?;
         if ended != Some(Status::WriteFault) {
             return Ok(false);
         }
@@ -170,104 +169,48 @@ fn ends_where_the_outside_fails(rt: HostRuntime) -> Result<(), Fail> {
     Ok(())
 }
 
-// `front` and then `count` bytes `fill`.
-fn long(alloc: Global, front: &[u8], fill: u8, count: usize) -> Result<Vec<u8>, Fail> {
-    let mut bytes = Vec::from_slice(alloc, front)?;
-    for _ in 0..count {
-        bytes.push(fill)?;
+// The note of a packet without bytes.
+const NOTE: &[u8] = b"opuspack: refused: record 0 at 0: R1 at 0\n";
+
+#[test]
+fn a_note_that_fails_leaves_the_status(rt: HostRuntime) -> Result<(), Fail> {
+    let alloc = rt.alloc();
+    let words = words_of(alloc, NORM)?;
+    for written in 0..NOTE.len() {
+        let mut source = MemorySource::new(alloc, b"", 1, &[]).map_err(|_| "memory")?;
+        let mut out = MemorySink::new(alloc, 1, &[]).map_err(|_| "memory")?;
+        let mut note = MemorySink::new(alloc, 1, &[written as u64 + 1]).map_err(|_| "memory")?;
+        let words = words.as_slice();
+        let status = run(alloc, words, max_input(), &mut source, &mut out, &mut note);
+        assert_eq!(rt; status, Status::Refused);
+        assert!(rt; out.contents().is_empty());
+        assert_eq!(rt; note.contents(), &NOTE[..written]);
     }
-    Ok(bytes)
-}
-
-// The same where padding is kept.
-fn keep(alloc: Global, input: &[u8], output: &[u8], note: &str) -> Result<Option<Status>, Fail> {
-    let words = &["norm", "--padding", "keep"];
-    status_of(alloc, words, input, &unfailing(4096), output, note)
-}
-
-// The status of norm over `input`, where it wrote `output` and this note.
-fn norm(
-    alloc: Global,
-    input: &[u8],
-    limit: u64,
-    output: &[u8],
-    note: &str,
-) -> Result<Option<Status>, Fail> {
-    let around = Around {
-        limit,
-        ..unfailing(4096)
-    };
-    status_of(alloc, NORM, input, &around, output, note)
-}
-
-#[test]
-fn knows_long_packets_and_the_limit(rt: HostRuntime) -> Result<(), Fail> {
-    let alloc = rt.alloc();
-    let most = max_input();
-    let largest = long(alloc, b"\xf8", 0, 1275)?;
-    assert_eq!(rt;
-        norm(alloc, &largest, most, &largest, "")?,
-        Some(Status::Ok)
-    );
-    let over = long(alloc, b"\xf8", 0, 1276)?;
-    let note = "refused: record 0 at 1276: R2 at 1276";
-    assert_eq!(rt; norm(alloc, &over, most, b"", note)?, Some(Status::Refused));
-    let short = long(alloc, b"\xf8", 0, 64)?;
-    let note = "input limit";
-    assert_eq!(rt;
-        norm(alloc, &short, 64, b"", note)?,
-        Some(Status::InputLimit)
-    );
-    assert_eq!(rt; norm(alloc, &short, 65, &short, "")?, Some(Status::Ok));
     Ok(())
 }
 
 #[test]
-fn drops_padding_of_any_length(rt: HostRuntime) -> Result<(), Fail> {
+fn an_input_without_end_is_refused_or_limited(rt: HostRuntime) -> Result<(), Fail> {
     let alloc = rt.alloc();
-    let most = max_input();
-    let padded = long(alloc, b"\xfb\x41\xfe\xaa", 0, 254)?;
-    assert_eq!(rt;
-        norm(alloc, &padded, most, b"\xf8\xaa", "")?,
-        Some(Status::Ok)
-    );
-    let twice = long(alloc, b"\xfb\x41\xff\x00\xaa", 0, 254)?;
-    assert_eq!(rt;
-        norm(alloc, &twice, most, b"\xf8\xaa", "")?,
-        Some(Status::Ok)
-    );
-    let endless = long(alloc, b"\xfb\x41", 255, 65793)?;
-    let note = "refused: record 0 at 65794: PadLimit at 65794";
-    assert_eq!(rt;
-        norm(alloc, &endless, most, b"", note)?,
-        Some(Status::Refused)
-    );
-    let front = long(alloc, b"\xfb\x41", 255, 65792)?;
-    let mut longest = long(alloc, &front, 254, 1)?;
-    longest.push(0xaa)?;
-    let longest = long(alloc, &longest, 0, 16_711_422)?;
-    assert_eq!(rt;
-        norm(alloc, &longest, most, b"\xf8\xaa", "")?,
-        Some(Status::Ok)
-    );
-    Ok(())
-}
-
-#[test]
-fn keeps_padding_up_to_65535_bytes(rt: HostRuntime) -> Result<(), Fail> {
-    let alloc = rt.alloc();
-    let twice = long(alloc, b"\xfb\x41\xff\x00\xaa", 0, 254)?;
-    let once = long(alloc, b"\xfb\x41\xfe\xaa", 0, 254)?;
-    assert_eq!(rt; keep(alloc, &twice, &once, "")?, Some(Status::Ok));
-    let front = long(alloc, b"\xfb\x41", 255, 258)?;
-    let mut most = long(alloc, &front, 3, 1)?;
-    most.push(0xaa)?;
-    let most = long(alloc, &most, 0, 65535)?;
-    assert_eq!(rt; keep(alloc, &most, &most, "")?, Some(Status::Ok));
-    let mut over = long(alloc, &front, 4, 1)?;
-    over.push(0xaa)?;
-    let over = long(alloc, &over, 0, 65536)?;
-    let note = "refused: record 0 at 65798: padding long";
-    assert_eq!(rt; keep(alloc, &over, b"", note)?, Some(Status::Refused));
+    let words = words_of(alloc, NORM)?;
+    for (limit, status, text) in [
+        (
+            5000,
+            Status::Refused,
+            "refused: record 0 at 1276: R2 at 1276",
+        ),
+        (1000, Status::InputLimit, "input limit"),
+    ] {
+        let mut source = EndlessSource::new(0xf8);
+        let mut out = MemorySink::new(alloc, 1, &[]).map_err(|_| "memory")?;
+        let mut note = MemorySink::new(alloc, 1, &[]).map_err(|_| "memory")?;
+        let words = words.as_slice();
+        assert_eq!(rt;
+            run(alloc, words, limit, &mut source, &mut out, &mut note),
+            status
+        );
+        assert!(rt; out.contents().is_empty());
+        assert_eq!(rt; note.contents(), line_of(alloc, text)?.as_slice());
+    }
     Ok(())
 }
