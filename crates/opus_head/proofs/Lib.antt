@@ -9,3 +9,4 @@ pub mod WriteLemmas
 pub mod StandardFacts
 pub mod LongerLemmas
 pub mod LongerHeadLemmas
+pub mod MemoryLemmas

@@ -21,6 +21,8 @@ pub fn read_head(alloc: Global, bytes: &[u8]) -> Result<Head, HeadFault>
         → (result ≡ Ok h) ⊎ (result ≡ Err HeadFault.NoMemory) }
     ensures fault { IfErr result (λ fault. (fault ≡ HeadFault.NoMemory)
         ⊎ (head_fault bytes.now ≡ Some fault)) }
+    // Want of memory comes only where there is no other fault.
+    ensures last { result ≡ Err HeadFault.NoMemory → head_fault bytes.now ≡ None }
 {
     check(bytes)?;
     Ok(copy_head(alloc, bytes)?)

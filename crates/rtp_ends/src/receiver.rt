@@ -65,6 +65,7 @@ impl Receiver {
             → HasArrived self.new heard (record { seq = seq; stamp = stamp; payload = payload.now }) answer
             out.old.items out.new.items) }
         ensures repeat { IfOk result (λ answer. OnRepeat answer (self.new ≡ counted self.old)) }
+        ensures quiet { IfOk result (λ answer. OnRepeat answer (out.new.items ≡ out.old.items)) }
         ensures arrivals { OnOk result (self.new.arrivals ≡ self.old.arrivals + 1) }
         ensures err { OnErr result (out.new.items ≡ out.old.items) }
         ensures kept { OnErr result (self.new ≡ self.old) }

@@ -1,10 +1,12 @@
-use Rattle.std.proofs.Common.{Ok, inl, sym, ap, subst, ◌∙◌}
+use Rattle.std.proofs.Common.{◌≡◌, Ok, Err, inl, sym, ap, subst, ◌∙◌, rules}
 use Rattle.opus_head.specs.HeadValue.{AreBytes}
 use Rattle.opus_head.specs.HeadBytes.{IsOpusHead}
 use Rattle.opus_head.specs.HeadFault.{head_fault}
+use Rattle.opus_head.specs.declared.fault.HeadFault.TheVariants.{NoMemory}
 use Rattle.opus_head.proofs.CheckLemmas.{none-outcome, outcome-none}
 use Rattle.opus_head.proofs.NoFaultLemmas.{NoFault-none}
 use Rattle.opus_head.proofs.SpelledLemmas.{head_in-spelled}
+use Rattle.opus_head.proofs.MemoryLemmas.{memory_never}
 use Rattle.opus_head.proofs.ReadingLemmas.{spelled-read, spelled-passes}
 use Rattle.opus_head.proofs.read.read_head.Goals as goal
 
@@ -23,3 +25,9 @@ returns-clause-found c =
 pub returns-clause-only : goal.returns-clause-only
 returns-clause-only c =
     λ h is. inl (ap Ok (c.in_ok-copy_head.ensures ∙ spelled-read h c.args.bytes.now is))
+
+pub returns-in_err-check-clause-last : goal.returns-in_err-check-clause-last
+returns-in_err-check-clause-last c full =
+    let e : c.from_residual.result ≡ Err c.in_err-check.field-0.0 = search rules in
+    let is : c.in_err-check.field-0.0 ≡ NoMemory = cc in
+    absurd (memory_never c.args.bytes.now c.in_err-check.field-0.0 c.in_err-check.ensures is)
