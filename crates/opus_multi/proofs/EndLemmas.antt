@@ -1,15 +1,13 @@
 -- What a feed of multistream packets stands for when no more bytes come.
-use Rattle.std.proofs.Common.{◌≡◌, ℕ, ◌+◌, ◌<◌, ◌≤◌, ◌⊎◌, inl, inr, List, [], ◌∷◌, ◌++◌, length, map, Option, Some, None, Result, Ok, Err, refl, ap, sym, subst, ◌∙◌, arith, length-append}
+use Rattle.std.proofs.Common.{◌≡◌, ℕ, ◌+◌, ◌<◌, ◌≤◌, ◌⊎◌, inl, inr, List, [], ◌∷◌, ◌++◌, length, map, Some, Result, Ok, Err, refl, ap, sym, subst, ◌∙◌, arith, length-append}
 use Rattle.std.specs.Bool.{⊤}
 use Rattle.std.proofs.lemmas.List.{length-map}
 use Rattle.opus_packet.specs.declared.fault.Fault.{Fault}
 use Rattle.opus_packet.specs.Value.{duration_of}
 use Rattle.opus_packet.specs.Read.{PacketRead}
-use Rattle.opus_packet.specs.PacketPrefix.{AreBytes}
-use Rattle.opus_feed.specs.declared.framing.Framing.TheVariants.{Whole, SelfDelimited}
+use Rattle.opus_feed.specs.declared.framing.Framing.TheVariants.{Whole}
 use Rattle.opus_feed.specs.declared.padding.Padding.{Padding}
 use Rattle.opus_feed.specs.declared.step.Step.TheVariants.{More}
-use Rattle.opus_feed.specs.declared.feed.Feed.{Feed}
 use Rattle.opus_feed.specs.Tails.{tail_kept}
 use Rattle.opus_feed.specs.Feeds.{Stands, Ended}
 use Rattle.opus_feed.specs.Answers.{Answers, Finishes, IsRead}
@@ -21,10 +19,10 @@ use Rattle.opus_multi.specs.Streams.{SpelledStream, StandFirst, IsLastStream, Ar
 use Rattle.opus_multi.specs.declared.durations.Durations.{Durations}
 use Rattle.opus_multi.specs.Durations.{HaveOneDuration, IsUnequalAt}
 use Rattle.opus_multi.specs.Multistream.{durations_of}
-use Rattle.opus_multi.specs.MultistreamFault.{framing_of, IsBroken}
+use Rattle.opus_multi.specs.MultistreamFault.{framing_of}
 use Rattle.opus_multi.specs.Told.{Told}
-use Rattle.opus_multi.specs.StreamParts.{read_with, part_as, part_of, AreAllParts}
-use Rattle.opus_multi.specs.MultiStands.{Reads, HasBroken, HasUnequal}
+use Rattle.opus_multi.specs.StreamParts.{read_with, part_of}
+use Rattle.opus_multi.specs.MultiStands.{Reads, HasBroken}
 use Rattle.opus_multi.specs.MultiAnswers.{IsSomeMultistream}
 use Rattle.opus_multi.specs.MultiTurns.{SameChoices, HasLast, LastReads, EndReads}
 use Rattle.opus_multi.proofs.ReadLemmas.{lt_or_ge, framing_more, framing_past, told_one, told_other, unequal_within, length-durations}

@@ -1,10 +1,10 @@
 -- The parts of a multistream packet and what its bytes spell.
-use Rattle.std.proofs.Common.{◌≡◌, ℕ, ◌≤◌, Bool, true, false, nat_le, if◌then◌else◌, List, [], ◌∷◌, length, map, refl, ap, sym, ◌∙◌, arith, leb-false}
+use Rattle.std.proofs.Common.{◌≡◌, ℕ, Bool, true, false, nat_le, if◌then◌else◌, List, [], ◌∷◌, length, map, refl, ap, sym, ◌∙◌, arith, leb-false}
 use Rattle.std.proofs.lemmas.List.{length-map}
 use Rattle.std.specs.List.{AllByRecursion}
 use Rattle.opus_packet.specs.Value.{PacketValue}
 use Rattle.opus_packet.specs.Read.{PacketRead}
-use Rattle.opus_packet.specs.Tail.{TailRead, kept, counted, kept_bytes, max_tail}
+use Rattle.opus_packet.specs.Tail.{kept, counted, kept_bytes, max_tail}
 use Rattle.opus_feed.specs.declared.padding.Padding.{Padding}
 use Rattle.opus_feed.specs.declared.padding.Padding.TheVariants.{Drop, Keep}
 use Rattle.opus_feed.specs.Tails.{tail_kept}

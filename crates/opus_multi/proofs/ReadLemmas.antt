@@ -1,5 +1,5 @@
 -- What reading the streams one after another gives.
-use Rattle.std.proofs.Common.{◌≡◌, ℕ, suc, ◌+◌, ◌-◌, ◌<◌, ◌≤◌, ◌⊎◌, inl, inr, Bool, true, false, nat_lt, List, [], ◌∷◌, ◌++◌, length, take, drop, map, Option, Some, None, refl, ap, sym, arith, length-append, lt-ltb, le-ltb, ltb-true, ltb-false, replicate}
+use Rattle.std.proofs.Common.{◌≡◌, ℕ, suc, ◌+◌, ◌-◌, ◌<◌, ◌≤◌, ◌⊎◌, inl, inr, Bool, true, false, nat_lt, List, [], ◌∷◌, ◌++◌, length, take, drop, map, Option, Some, None, refl, ap, sym, ◌∙◌, arith, length-append, lt-ltb, le-ltb, ltb-true, ltb-false, replicate}
 use Rattle.std.proofs.lemmas.List.{map_push, length-replicate}
 use Rattle.opus_packet.specs.declared.shape.Shape.{Shape}
 use Rattle.opus_packet.specs.declared.fault.Fault.{Fault}
@@ -18,7 +18,7 @@ use Rattle.opus_multi.specs.Durations.{HaveOneDuration, IsUnequalAt}
 use Rattle.opus_multi.specs.Told.{Told, Says}
 use Rattle.opus_multi.specs.Multistream.{durations_of}
 use Rattle.opus_multi.specs.MultistreamFault.{framing_of, IsBroken, AreUnequal}
-use Rattle.opus_multi.specs.Readings.{stream_read, AreRead, ReadFirst}
+use Rattle.opus_multi.specs.Readings.{stream_read, AreRead, ReadFirst, ReadSoFar}
 use Rattle.opus_multi.proofs.StreamsLemmas.{stand_push}
 
 pub lt_or_ge : (m n : ℕ) → (m < n) ⊎ (n ≤ m)
@@ -90,6 +90,17 @@ read_more k used bytes rest old new packets p within size h told r =
       stand = stand_push r.first bytes rest s r.stand (record { within = within; spelled = h.1 });
       told = rw (map_push (λ (t : SpelledStream). duration_of t.value) r.first s) (told (durations_of r.first) (rw (length-durations r.first) r.counted) r.told);
     }
+
+pub so_far_more : (k used : ℕ) (bytes rest : List ℕ) (old new : Durations) (full after : Bool)
+    (packets kept : List PacketRead) (p : PacketRead) → used ≤ length rest → p.size ≡ used → HasSelfTail p (take used rest)
+    → ((ds : List ℕ) → length ds ≡ k → Told old ds → Told new (ds ++ duration_of p.value ∷ []))
+    → (after ≡ false → full ≡ false) → (after ≡ false → kept ≡ packets ++ p ∷ [])
+    → ReadSoFar k bytes rest old full packets → ReadSoFar (k + 1) bytes (drop used rest) new after kept
+so_far_more k used bytes rest old new full after packets kept p within size h told before is r = record {
+  all = r.all ++ p ∷ [];
+  read = read_more k used bytes rest old new r.all p within size h told r.read;
+  kept = λ e. is e ∙ ap (λ (ps : List PacketRead). ps ++ p ∷ []) (r.kept (before e));
+}
 
 -- a stream that doesn't read
 pub broken_self : (count k : ℕ) (bytes rest : List ℕ) (d : Durations) (packets : List PacketRead) (f : Fault)

@@ -1,5 +1,5 @@
 -- The parts that a feed of multistream packets keeps, and their durations.
-use Rattle.std.proofs.Common.{◌≡◌, ℕ, ◌+◌, ◌<◌, ◌≤◌, List, [], ◌∷◌, ◌++◌, length, map, replicate, Option, Some, None, refl, ap, sym, subst, ◌∙◌, arith, length-append}
+use Rattle.std.proofs.Common.{◌≡◌, ℕ, ◌+◌, ◌<◌, List, [], ◌∷◌, ◌++◌, length, map, replicate, Option, Some, None, refl, ap, sym, subst, arith, length-append}
 use Rattle.std.proofs.lemmas.List.{map_push, length-map}
 use Rattle.opus_packet.specs.Value.{duration_of}
 use Rattle.opus_packet.specs.Read.{PacketRead}

@@ -1,9 +1,9 @@
 -- What a feed of multistream packets stands for says of the bytes and of its parts.
-use Rattle.std.proofs.Common.{◌≡◌, ℕ, ◌+◌, ◌<◌, List, [], ◌∷◌, ◌++◌, length, refl, ap, sym, subst, ◌∙◌, arith, length-append}
+use Rattle.std.proofs.Common.{◌≡◌, ℕ, ◌+◌, ◌<◌, List, [], ◌∷◌, ◌++◌, length, ap, sym, subst, ◌∙◌, arith, length-append}
 use Rattle.std.proofs.lemmas.List.{append-nil, append_assoc}
 use Rattle.opus_packet.specs.declared.fault.Fault.{Fault}
 use Rattle.opus_packet.specs.PacketPrefix.{AreBytes}
-use Rattle.opus_packet.proofs.BytesLemmas.{AreBytes-append, AreBytes-right}
+use Rattle.opus_packet.proofs.BytesLemmas.{AreBytes-append}
 use Rattle.opus_self.specs.BecomesSelf.{BeginsWithNone}
 use Rattle.opus_feed.specs.declared.framing.Framing.{Framing}
 use Rattle.opus_feed.specs.declared.framing.Framing.TheVariants.{Whole, SelfDelimited}
@@ -14,10 +14,10 @@ use Rattle.opus_multi.specs.declared.fault.MultiFault.TheVariants.{Stream, Unequ
 use Rattle.opus_multi.specs.declared.multi_place.MultiPlace.{MultiPlace}
 use Rattle.opus_multi.specs.declared.multi_place.MultiPlace.TheVariants.{Reading, Done, Failed}
 use Rattle.opus_multi.specs.declared.multi_feed.MultiFeed.{MultiFeed}
-use Rattle.opus_multi.specs.MultistreamFault.{framing_of, IsBroken}
+use Rattle.opus_multi.specs.MultistreamFault.{framing_of}
 use Rattle.opus_multi.specs.MultistreamPrefix.{IsMultistreamPrefix}
 use Rattle.opus_multi.specs.StreamParts.{AreFirstParts}
-use Rattle.opus_multi.specs.MultiStands.{Reads, HasRefused, HasBroken, MultiStandsAt, MultiStands, MultiEndedAt, MultiEnded}
+use Rattle.opus_multi.specs.MultiStands.{Reads, HasRefused, HasBroken, MultiStandsAt, MultiStands, MultiEndedAt}
 use Rattle.opus_multi.specs.MultiAnswers.{RefusesStream, EndedParts}
 use Rattle.opus_multi.proofs.StreamsLemmas.{stand_more, stand_bytes}
 use Rattle.opus_multi.proofs.ReadLemmas.{framing_more}

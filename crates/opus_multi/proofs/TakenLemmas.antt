@@ -1,14 +1,14 @@
 -- What a feed of multistream packets answers of a piece, and of the end.
-use Rattle.std.proofs.Common.{◌≡◌, ℕ, ◌<◌, ◌≤◌, List, [], ◌++◌, length, take, drop, Option, Some, None, Result, Ok, Err, refl, ap, sym, subst, ◌∙◌, arith}
+use Rattle.std.proofs.Common.{◌≡◌, ℕ, List, ◌++◌, length, take, drop, Some, Result, Ok, Err, ap, sym, subst, ◌∙◌, arith}
 use Rattle.std.specs.Bool.{⊤}
 use Rattle.std.proofs.lemmas.List.{append_assoc, take-append-drop}
 use Rattle.opus_packet.specs.PacketPrefix.{AreBytes}
 use Rattle.opus_multi.specs.declared.fault.MultiFault.{MultiFault}
 use Rattle.opus_multi.specs.declared.fault.MultiFault.TheVariants.{Stream, Unequal, NoMemory}
-use Rattle.opus_multi.specs.declared.multi_place.MultiPlace.TheVariants.{Reading, Done, Failed}
+use Rattle.opus_multi.specs.declared.multi_place.MultiPlace.TheVariants.{Reading, Failed}
 use Rattle.opus_multi.specs.declared.multi_feed.MultiFeed.{MultiFeed}
 use Rattle.opus_multi.specs.MultiStands.{Reads, HasRefused, MultiStandsAt, MultiStands, MultiEndedAt, MultiEnded}
-use Rattle.opus_multi.specs.MultiAnswers.{HasMoreStreams, UnlessFull, MultiAnswers, MultiFinishes, MultiTells, MultiTellsEnd}
+use Rattle.opus_multi.specs.MultiAnswers.{UnlessFull, MultiAnswers, MultiFinishes, MultiTells, MultiTellsEnd}
 use Rattle.opus_multi.specs.MultiTurns.{SameChoices, SoFar, TakeReads, TurnReads, Turned, EndReads}
 use Rattle.opus_multi.proofs.StandsLemmas.{reads_prefix, refused_on, refused_broken, refused_stream}
 use Rattle.opus_multi.proofs.EndLemmas.{some_multistream}
@@ -23,7 +23,7 @@ so_far_next old now new piece rest used s reads turned same = record {
   piece_is = s.piece_is ∙ ap (λ l. s.front ++ l) (sym (take-append-drop used rest)) ∙ sym (append_assoc s.front (take used rest) (drop used rest));
   reading = turned.0;
   more = let more = s.more in omega (arith, more, turned.2);
-  same = record { streams = same.streams ∙ s.same.streams; padding = same.padding ∙ s.same.padding };
+  same = record { streams = same.streams ∙ s.same.streams; padding = same.padding ∙ s.same.padding; room = same.room ∙ s.same.room };
   reads = λ bytes r. rw (sym (append_assoc bytes s.front (take used rest))) (reads (bytes ++ s.front) (s.reads bytes r));
 }
 

@@ -2,7 +2,6 @@
 use Rattle.std.proofs.Common.{◌≡◌, ℕ, ◌+◌, ◌<◌, ◌≤◌, List, [], ◌∷◌, ◌++◌, length, take, drop, map, refl, ap, sym, subst, ◌∙◌, arith, length-append, take_all}
 use Rattle.std.proofs.lemmas.List.{map_push, length-map, length-take}
 use Rattle.std.proofs.Math.Seq.{take-append-add, drop-length}
-use Rattle.std.proofs.lemmas.List.{append_assoc}
 use Rattle.opus_packet.specs.declared.fault.Fault.{Fault}
 use Rattle.opus_packet.specs.Value.{duration_of}
 use Rattle.opus_packet.specs.PacketPrefix.{AreBytes}
@@ -17,7 +16,7 @@ use Rattle.opus_feed.specs.declared.place.Place.{Place}
 use Rattle.opus_feed.specs.declared.place.Place.TheVariants.{Opening, Filling, Full, Failed}
 use Rattle.opus_feed.specs.declared.feed.Feed.{Feed}
 use Rattle.opus_feed.specs.Places.{IsSteady}
-use Rattle.opus_feed.specs.Stands.{StandsAt, fault_at}
+use Rattle.opus_feed.specs.Stands.{StandsAt}
 use Rattle.opus_feed.specs.Steps.{IsReading}
 use Rattle.opus_feed.specs.Packets.{Refuses}
 use Rattle.opus_feed.specs.Feeds.{Stands, HasFailed}

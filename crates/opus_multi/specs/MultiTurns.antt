@@ -2,7 +2,7 @@
 use Rattle.std.specs.Prelude.{◌≡◌, ℕ, ◌+◌, ◌<◌, ◌≤◌, List, [], ◌∷◌, ◌++◌, length, take, Option, Some, None, Result, Ok, Err, ⊤}
 use Rattle.opus_packet.specs.Value.{duration_of}
 use Rattle.opus_packet.specs.Read.{PacketRead}
-use Rattle.opus_feed.specs.Feeds.{Stands, Ended}
+use Rattle.opus_feed.specs.Feeds.{room_in, Stands, Ended}
 use Rattle.opus_feed.specs.Answers.{IsRead}
 use Rattle.opus_feed.specs.Steps.{IsReading}
 use Rattle.opus_multi.specs.declared.fault.MultiFault.{MultiFault}
@@ -19,6 +19,7 @@ use Rattle.opus_multi.specs.MultiAnswers.{HasMoreStreams, IsSomeMultistream}
 pub record SameChoices (old new : MultiFeed) : Type 0 where
   pub streams : new.streams ≡ old.streams
   pub padding : new.feed.padding ≡ old.feed.padding
+  pub room : room_in new.feed ≡ room_in old.feed
 
 -- all of a piece came, behind which these are all bytes; or a stream was refused, or became whole
 abbrev pub TakeReads : MultiFeed → List ℕ → Result ⊤ MultiFault → MultiFeed → Type 0

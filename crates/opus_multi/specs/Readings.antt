@@ -1,5 +1,5 @@
 -- What reading a multistream packet gives.
-use Rattle.std.specs.Prelude.{◌≡◌, ℕ, List, length, map, Result, Ok, Err}
+use Rattle.std.specs.Prelude.{◌≡◌, ℕ, Bool, false, List, length, map, Result, Ok, Err}
 use Rattle.opus_packet.specs.Read.{PacketRead}
 use Rattle.opus_packet.specs.Tail.{tail_of}
 use Rattle.opus_multi.specs.declared.fault.MultiFault.{MultiFault}
@@ -43,3 +43,9 @@ pub record ReadFirst (count : ℕ) (bytes rest : List ℕ) (durations : Duration
   pub packets_are : packets ≡ map stream_read first
   pub stand : StandFirst first bytes rest
   pub told : Told durations (durations_of first)
+
+-- so many packets stand first, which are kept where memory was found for each
+pub record ReadSoFar (count : ℕ) (bytes rest : List ℕ) (durations : Durations) (full : Bool) (packets : List PacketRead) : Type 0 where
+  pub all : List PacketRead
+  pub read : ReadFirst count bytes rest durations all
+  pub kept : full ≡ false → packets ≡ all

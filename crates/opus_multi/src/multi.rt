@@ -1,8 +1,9 @@
 //! Reading a multistream packet (RFC 7845, section 3).
-ghost use Rattle.std.specs.Prelude.{◌≡◌, ℕ, ◌-◌, ◌≤◌, List, length, drop, IfOk, IfErr};
+ghost use Rattle.std.specs.Prelude.{◌≡◌, ℕ, ◌-◌, ◌≤◌, List, [], ◌∷◌, ◌++◌, false, length, drop, Err, IfOk, IfErr};
 ghost use Rattle.opus_packet.specs.Value.{PacketValue};
 ghost use Rattle.opus_multi.specs.Multistream.{IsMultistream};
-ghost use Rattle.opus_multi.specs.Readings.{AreRead, IsFaultOf, IsOkUnlessFull, ReadFirst};
+ghost use Rattle.opus_multi.specs.MultiAnswers.{IsSomeMultistream};
+ghost use Rattle.opus_multi.specs.Readings.{AreRead, IsFaultOf, IsOkUnlessFull, ReadSoFar};
 
 use crate::durations::Durations;
 use crate::fault::MultiFault;
@@ -47,7 +48,8 @@ impl<'a> Multi<'a> {
 
 /// Reads the whole of `bytes` as a multistream packet of so many streams: self-delimited packets of all but the last,
 /// and then an undelimited one, all of one duration (RFC 7845, section 3). A stream that doesn't read comes before
-/// unequal durations. Padding bytes are kept up to 65,535 of each packet.
+/// unequal durations, and want of memory last: where there is none, the streams that are left are read without being
+/// kept. Padding bytes are kept up to 65,535 of each packet.
 pub fn decode_multi(alloc: Global, bytes: &[u8], streams: u8) -> Result<Multi<'_>, MultiFault>
     requires { 1 ≤ streams }
     // What is read is spelled so, each byte of it; and what is spelled so is read, where memory is found.
@@ -55,8 +57,11 @@ pub fn decode_multi(alloc: Global, bytes: &[u8], streams: u8) -> Result<Multi<'_
     ensures only { (vs : List PacketValue) (qs : List (List ℕ)) → length vs ≡ streams
         → IsMultistream vs qs bytes.now → IsOkUnlessFull result }
     ensures fault { IfErr result (λ f. IsFaultOf streams bytes.now f) }
+    // Want of memory comes only where there is no other fault.
+    ensures last { result ≡ Err MultiFault.NoMemory → IsSomeMultistream streams bytes.now }
 {
     let mut packets = Vec::new(alloc);
+    let mut full = false;
     let mut durations = Durations::new();
     let mut rest = bytes;
     for k in 0..streams - 1 {
@@ -66,11 +71,17 @@ pub fn decode_multi(alloc: Global, bytes: &[u8], streams: u8) -> Result<Multi<'_
         };
         durations.add(usize::from(k), read.packet.duration());
         rest = behind(rest, read.used);
-        let Ok(()) = packets.push(read.packet) else {
-            return Err(MultiFault::NoMemory);
-        };
+        full = keep(&mut packets, read.packet, full);
     }
-    end(rest, streams, durations, packets)
+    end(rest, streams, durations, packets, full)
+}
+
+// Keeps a packet, unless memory was refused before. Whether it is refused by now.
+fn keep<'a>(packets: &mut Vec<Packet<'a>>, packet: Packet<'a>, full: bool) -> bool
+    ensures before { result ≡ false → full ≡ false }
+    ensures kept { result ≡ false → packets.new.items ≡ packets.old.items ++ packet.entry ∷ [] }
+{
+    full || packets.push(packet).is_err()
 }
 
 // The bytes behind so many.
@@ -81,18 +92,21 @@ pub(crate) fn behind(bytes: &[u8], at: usize) -> &[u8]
     &bytes[at..]
 }
 
-// Behind the packets of all streams but the last: `rest` is the last one.
+// Behind the packets of all streams but the last: `rest` is the last one. `full` where memory was refused.
 fn end<'a>(
     rest: &'a [u8],
     streams: u8,
     durations: Durations,
     packets: Vec<Packet<'a>>,
+    full: bool,
 ) -> Result<Multi<'a>, MultiFault>
     requires { 1 ≤ streams }
-    ensures found { (bytes : List ℕ) → ReadFirst (streams - 1) bytes rest.now durations packets.entry.items
+    ensures found { (bytes : List ℕ) → ReadSoFar (streams - 1) bytes rest.now durations full packets.entry.items
         → IfOk result (λ m. AreRead streams bytes m) }
-    ensures fault { (bytes : List ℕ) → ReadFirst (streams - 1) bytes rest.now durations packets.entry.items
+    ensures fault { (bytes : List ℕ) → ReadSoFar (streams - 1) bytes rest.now durations full packets.entry.items
         → IfErr result (λ f. IsFaultOf streams bytes f) }
+    ensures last { (bytes : List ℕ) → ReadSoFar (streams - 1) bytes rest.now durations full packets.entry.items
+        → result ≡ Err MultiFault.NoMemory → IsSomeMultistream streams bytes }
 {
     let last = streams - 1;
     let mut durations = durations;
@@ -102,11 +116,10 @@ fn end<'a>(
         Err(fault) => return Err(MultiFault::Stream(last, fault)),
     };
     durations.add(usize::from(last), packet.duration());
-    let Ok(()) = packets.push(packet) else {
-        return Err(MultiFault::NoMemory);
-    };
+    let full = keep(&mut packets, packet, full);
     match durations.other {
         Some(other) => Err(MultiFault::Unequal(other.min(254) as u8)),
+        None if full => Err(MultiFault::NoMemory),
         None => Ok(Multi { packets }),
     }
 }

@@ -31,6 +31,8 @@ pub struct MultiFeed {
 
 impl MultiFeed {
     ghost use Rattle.std.specs.Prelude.{◌≡◌, ℕ, ◌+◌, ◌≤◌, ◌<◌, List, [], ◌++◌, length, map, IfOk, OnOk};
+    ghost use Rattle.opus_feed.specs.Bodies.{memory_of};
+    ghost use Rattle.opus_feed.specs.Feeds.{room_in};
     ghost use Rattle.opus_feed.specs.Steps.{IsWhole};
     ghost use Rattle.opus_multi.specs.Durations.{HaveOneDuration};
     ghost use Rattle.opus_multi.specs.Joins.{held_durations};
@@ -49,6 +51,7 @@ impl MultiFeed {
         ensures reading { IfOk result (λ m. m.place ≡ Reading) }
         ensures streams { IfOk result (λ m. m.streams ≡ streams) }
         ensures padding { IfOk result (λ m. m.feed.padding ≡ padding) }
+        ensures room { IfOk result (λ m. room_in m.feed ≡ memory_of padding) }
     {
         Ok(MultiFeed {
             alloc,
@@ -66,6 +69,7 @@ impl MultiFeed {
         ensures reading { self.new.place ≡ Reading }
         ensures streams { self.new.streams ≡ self.old.streams }
         ensures padding { self.new.feed.padding ≡ self.old.feed.padding }
+        ensures room { room_in self.new.feed ≡ room_in self.old.feed }
     {
         self.place = MultiPlace::Reading;
         self.durations = Durations::new();

@@ -1,5 +1,4 @@
 use Rattle.std.proofs.Common.{◌++◌, length, subst}
-use Rattle.opus_packet.specs.PacketPrefix.{AreBytes}
 use Rattle.opus_packet.proofs.BytesLemmas.{AreBytes-append, AreBytes-from}
 use Rattle.opus_multi.specs.MultiStands.{MultiStandsAt}
 use Rattle.opus_multi.proofs.TakenLemmas.{taken_stands, taken_answer, failed_stands, failed_answer}

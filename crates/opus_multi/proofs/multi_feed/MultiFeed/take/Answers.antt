@@ -1,7 +1,5 @@
-use Rattle.std.proofs.Common.{Err, subst, sym, ◌∙◌}
 use Rattle.std.proofs.lemmas.Result.{err_from_is_err_and}
-use Rattle.opus_multi.specs.MultiTurns.{TakeReads}
-use Rattle.opus_multi.proofs.TakenLemmas.{so_far_next, so_far_none, so_far_err}
+use Rattle.opus_multi.proofs.TakenLemmas.{so_far_next, so_far_err}
 use Rattle.opus_multi.proofs.multi_feed.MultiFeed.take.Goals as goal
 
 pub returns-in_err-used-clause-reads : goal.returns-in_err-used-clause-reads
