@@ -4,7 +4,7 @@ use Rattle.std.specs.List.{concat}
 use Rattle.std.proofs.lemmas.List.{length-map}
 use Rattle.std.proofs.lemmas.List.Elements.{All-append}
 use Rattle.std.proofs.lemmas.List.Sums.{sum_by-append, sum_by-le}
-use Rattle.std.specs.Vec.{vec_len}
+use Rattle.std.specs.Vec.{vec_len, vec_capacity}
 use Rattle.opus_toc.specs.Configuration.{samples_of}
 use Rattle.opus_packet.specs.Value.{PacketValue, IsPacketValue, max_frame, max_duration}
 use Rattle.opus_packet.specs.Cut.{cut}
@@ -20,6 +20,7 @@ use Rattle.opus_repack.proofs.InsideLemmas.{count-inside, size-inside}
 -- the packet's kind, and its lengths and bytes behind the others
 pub record IsPushed (r : Inside) (w : PacketValue) (n : Inside) : Type 0 where
   pub memory : vec_len n.bytes ≡ 61200
+  pub capacity : vec_capacity n.bytes ≡ 61200
   pub config_is : n.config ≡ w.config
   pub stereo_is : n.stereo ≡ w.stereo
   pub count_is : n.count ≡ r.count + length w.frames
@@ -55,6 +56,7 @@ Pushed-collected r w n is value goes new =
     ap sum new.lens_are ∙ sum_by-append (λ (k : ℕ). k) (lens_inside r) more in
     record {
       memory = new.memory;
+      capacity = new.capacity;
       config_in = omega (arith, new.config_is, value.config);
       most = omega (arith, new.count_is, most-pushed r w is value goes);
       counted = omega (arith, counts, is.counted, new.count_is, length-map w.frames (length {A = ℕ}));

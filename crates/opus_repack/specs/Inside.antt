@@ -1,5 +1,5 @@
 -- What a `Repacketizer` keeps, and what it stands for.
-use Rattle.std.specs.Prelude.{◌≡◌, ℕ, zero, suc, ◌*◌, ◌<◌, ◌≤◌, List, length, take, sum, All, Option, Some, None, vec_len}
+use Rattle.std.specs.Prelude.{◌≡◌, ℕ, zero, suc, ◌*◌, ◌<◌, ◌≤◌, List, length, take, sum, All, Option, Some, None, vec_len, vec_capacity}
 use Rattle.opus_toc.specs.Configuration.{samples_of}
 use Rattle.opus_packet.specs.Value.{PacketValue, max_frame, max_duration}
 use Rattle.opus_packet.specs.Cut.{cut}
@@ -25,9 +25,10 @@ some_value (suc count) v = Some v
 abbrev pub collected_inside : Inside → Option PacketValue
 collected_inside r = some_value r.count (value_inside r)
 
--- the frames fill the first bytes, and can be one packet
+-- the frames fill the first bytes, and can be one packet; there is memory for just these bytes
 pub record IsCollected (r : Inside) : Type 0 where
   pub memory : vec_len r.bytes ≡ 61200
+  pub capacity : vec_capacity r.bytes ≡ 61200
   pub config_in : r.config < 32
   pub most : r.count ≤ 48
   pub counted : length (lens_inside r) ≡ r.count

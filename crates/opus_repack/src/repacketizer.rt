@@ -1,5 +1,5 @@
 //! Frames of packets that are collected one after another, and given out in parts.
-ghost use Rattle.std.specs.Prelude.{◌≡◌, ℕ, ◌<◌, ◌≤◌, ◌↔◌, Option, Some, None, length, map, IfOk, IfSome, OnOk, OnErr, IsOk, IsErrOf, []};
+ghost use Rattle.std.specs.Prelude.{◌≡◌, ℕ, ◌<◌, ◌≤◌, ◌↔◌, Option, Some, None, length, map, IfOk, IfSome, OnOk, OnErr, IsOk, IsErrOf, [], vec_len, vec_capacity};
 ghost use Rattle.opus_packet.specs.Value.{IsPacketValue, max_duration};
 ghost use Rattle.opus_packet.specs.Tail.{kept};
 ghost use Rattle.opus_packet.specs.Canonical.{canonical_shape, canonical};
@@ -49,19 +49,17 @@ impl Model for Repacketizer {
 }
 
 impl Repacketizer {
-    /// A repacketizer without frames. It takes 61,200 bytes of memory.
+    /// A repacketizer without frames. It takes 61,200 bytes of memory, and no later call takes more.
     pub fn new(alloc: Global) -> Result<Repacketizer, NoMemory>
         ensures { IfOk result (λ r. r ≡ None) }
     {
-        let mut bytes = Vec::new(alloc);
-        bytes.resize(FRAME_BYTES, 0)?;
         Ok(Repacketizer {
             config: 0,
             stereo: false,
             count: 0,
             lens: [0; MAX_FRAMES],
             size: 0,
-            bytes,
+            bytes: zeros(alloc, FRAME_BYTES)?,
         })
     }
 
@@ -143,4 +141,16 @@ impl Repacketizer {
         let body = &self.bytes[..self.size];
         part_of(self.config, self.stereo, body, lens, from, to)
     }
+}
+
+// So many zeros, in just as many bytes of memory.
+fn zeros(alloc: Global, size: usize) -> Result<Vec<u8>, NoMemory>
+    ensures len { IfOk result (λ v. vec_len v ≡ size) }
+    ensures capacity { IfOk result (λ v. vec_capacity v ≡ size) }
+{
+    let mut bytes = Vec::with_capacity(alloc, size)?;
+    'room: for _ in 0..size {
+        bytes.push_reserved(0);
+    }
+    Ok(bytes)
 }

@@ -79,6 +79,8 @@ impl DumpReader {
         ensures live { self.new.live ≡ is_live result }
         ensures full { IsErrOf result StoreStop.NoMemory → vec_capacity packet.old < 65527 }
         ensures untouched { IsErrOf result StoreStop.NoMemory → source.new ≡ source.old }
+        ensures room { (IsErrOf result StoreStop.NoMemory → ⊥) → 65527 ≤ vec_capacity packet.new }
+        ensures capacity { vec_capacity packet.old ≤ vec_capacity packet.new }
         ensures cause { StoreCause (S.faults source.old) (S.faults source.new) result }
     {
         packet.clear();
@@ -170,6 +172,7 @@ fn read_record<S: Source>(
     requires room { 65527 ≤ vec_capacity packet.old }
     ensures answer { RecordTaken input.old input.new (S.left source.old) (S.left source.new)
         packet.new.items result }
+    ensures capacity { vec_capacity packet.old ≤ vec_capacity packet.new }
     ensures cause { StoreCause (S.faults source.old) (S.faults source.new) result }
 {
     let start = input.passed();
@@ -205,6 +208,7 @@ fn take_rest<S: Source>(
     requires in_limit { input.old.passed ≤ input.old.limit }
     ensures answer { RestTaken input.old input.new (S.left source.old) (S.left source.new)
         packet.old.items packet.new.items result }
+    ensures capacity { vec_capacity packet.old ≤ vec_capacity packet.new }
     ensures cause { StoreCause (S.faults source.old) (S.faults source.new) result }
 {
     if let Err(stop) = take_bytes(input, source, packet, 8) {
@@ -229,6 +233,7 @@ fn take_kept<S: Source>(
     requires in_limit { input.old.passed ≤ input.old.limit }
     ensures answer { KeptTaken input.old input.new (S.left source.old) (S.left source.new)
         (head_bytes head) packet.new.items result }
+    ensures capacity { vec_capacity packet.old ≤ vec_capacity packet.new }
     ensures cause { StoreCause (S.faults source.old) (S.faults source.new) result }
 {
     packet.clear();

@@ -37,6 +37,7 @@ is_pushed c =
     let items : (new_inside c).bytes.items ≡ c.put.new.bytes = with_items_is r.bytes c.put.new.bytes (c.put.ensures.size ∙ c.deref_mut.ensures.len) in
     record {
       memory = c.self.invariant.memory;
+      capacity = c.self.invariant.capacity;
       config_is = c.toc-toc.ensures.config;
       stereo_is = c.toc-toc.ensures.stereo;
       count_is = omega (arith, c.put_lens-self-inside.ensures.count, ap length c.lens.ensures.are, length-map w.frames (length {A = ℕ}));
