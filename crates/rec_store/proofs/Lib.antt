@@ -1,5 +1,6 @@
 pub mod ByteLemmas
 pub mod CaptureFacts
+pub mod DemoCutLemmas
 pub mod DemoLemmas
 pub mod DumpLemmas
 pub mod FaultLemmas

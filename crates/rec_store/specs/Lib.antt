@@ -1,4 +1,5 @@
 pub mod DemoStore
+pub mod DemoCut
 pub mod DemoReader
 pub mod Dump
 pub mod DumpLine

@@ -2,6 +2,7 @@
 ghost use Rattle.std.specs.Prelude.{◌≡◌, ◌↔◌, ◌⊎◌, ◌^◌, ◌<◌, ◌≤◌, ℕ, List, ◌++◌, length, take, drop};
 ghost use Rattle.std.specs.List.{AllByRecursion};
 ghost use Rattle.rec_store.specs.DemoStore.{demo_head, demo_record, IsDemoRecord, NoWholeRecord};
+ghost use Rattle.rec_store.specs.DemoCut.{IsDemoCut, IsWithinRecord};
 ghost use Rattle.rec_store.specs.Dump.{DumpRecord, IsDumpRecord, dump_record_bytes, IsRtcp, IsCut, packet_of_record, record_of_packet};
 ghost use Rattle.rec_store.specs.DumpLine.{IsBadLine};
 ghost use Rattle.rec_store.specs.DumpStore.{AreBytes, IsDump, IsStoreCut, IsOpeningPart, IsRecordCut, IsBadLength, IsDumpHead};
@@ -37,6 +38,12 @@ pub fn a_cut_record_is_none()
     ensures head { (bytes : List ℕ) → length bytes < 8 → NoWholeRecord bytes }
     ensures payload { (len range : ℕ) (part : List ℕ) → len < 2 ^ 32 → range < 2 ^ 32
         → length part < len → NoWholeRecord (demo_head len range ++ part) }
+{}
+
+/// A store is cut, so that it is no whole one and some bytes behind it make it one, exactly where it ends within a
+/// record.
+pub fn a_cut_store_ends_within_a_record()
+    ensures { (x : List ℕ) → AreBytes x → IsDemoCut x ↔ IsWithinRecord x }
 {}
 
 /// The same bytes begin with one record of a capture at most.
