@@ -36,6 +36,13 @@ impl Params {
         Params { params }
     }
 
+    /// The same parameters, taken out without a copy.
+    pub fn into_vec(self) -> Vec<Param>
+        ensures { result.items ≡ self }
+    {
+        self.params
+    }
+
     /// The parameters, lent.
     pub fn as_slice(&self) -> &[Param]
         ensures { result.now ≡ self.now }

@@ -1,5 +1,5 @@
 //! Reading the two lines.
-ghost use Rattle.std.specs.Prelude.{◌≡◌, ◌⊎◌, ◌+◌, ◌^◌, ◌<◌, ◌≤◌, true, None, Some, Ok, Err, [], map, length, codes, IsTrue, IfOk, IfErr};
+ghost use Rattle.std.specs.Prelude.{◌≡◌, ◌≢◌, ◌⊎◌, ◌+◌, ◌^◌, ◌<◌, ◌≤◌, true, None, Some, Ok, Err, [], map, length, codes, IsTrue, IfOk, IfErr};
 ghost use Rattle.opus_sdp.specs.Text.{is_line, trim};
 ghost use Rattle.text_numbers.specs.Number.{value_of};
 ghost use Rattle.opus_sdp.specs.Table.{same_name};
@@ -24,6 +24,7 @@ fn read_front(line: &[u8], front: &[u8]) -> Result<(u8, usize), SdpFault>
     ensures end { IfOk result (λ p. p.1 ≡ word_end (length front.now) line.now) }
     ensures within { IfOk result (λ p. p.1 ≤ length line.now) }
     ensures fault { IfErr result (λ fault. front_fault front.now line.now ≡ Some fault) }
+    ensures other { IfErr result (λ fault. fault ≢ SdpFault.NoMemory) }
 {
     let Some(behind) = line.strip_prefix(front) else {
         return Err(SdpFault::Prefix);
@@ -64,6 +65,8 @@ pub fn read_fmtp(alloc: Global, line: &[u8]) -> Result<Fmtp, SdpFault>
         → (result ≡ Ok m) ⊎ (result ≡ Err SdpFault.NoMemory) }
     ensures fault { IfErr result (λ fault. (fault ≡ SdpFault.NoMemory)
         ⊎ (fmtp_fault line.now ≡ Some fault)) }
+    // Want of memory comes only where nothing is wrong in front of the parameters.
+    ensures last { result ≡ Err SdpFault.NoMemory → front_fault (codes "a=fmtp:") line.now ≡ None }
 {
     let (payload_type, end) = read_front(line, b"a=fmtp:")?;
     read_params(alloc, end, &line[end..], payload_type)
