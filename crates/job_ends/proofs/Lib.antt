@@ -1,1 +1,4 @@
 pub mod EndsLemmas
+pub mod RunLemmas
+pub mod EachLemmas
+mod StandardFacts

@@ -46,8 +46,12 @@ pub record RunEnds {R K C F : Type 0} (m : Meaning R K C F) (Settles : List ℕ 
   pub cause : Causes (is_write_fault ending) (is_no_memory ending) Wanted before.writes after.writes before.refusals
       after.refusals
 
+-- What is said of a run over records R as Settles and Ends have them, whose cuts a C tells: its limit, the outside before
+-- and afterwards, why else memory may be wanted, and the program's ending.
+abbrev pub RunOver : Type 0 → Type 0 → Type 1
+RunOver R C = (List ℕ → List R → Type 0) → (List ℕ → List R → Option C → Type 0) → ℕ → Outside → Outside → Type 0 → Ending → Type 0
+
 -- the same, as the program's ending tells it
-abbrev pub MeaningEnds : {R K C F : Type 0} → (JobFault → F → Type 0) → (R → ℕ) → Meaning R K C F
-    → (List ℕ → List R → Type 0) → (List ℕ → List R → Option C → Type 0) → ℕ → Outside → Outside → Type 0 → Ending → Type 0
+abbrev pub MeaningEnds : {R K C F : Type 0} → (JobFault → F → Type 0) → (R → ℕ) → Meaning R K C F → RunOver R C
 MeaningEnds {R} {K} {C} {F} Tells place m Settles Ends limit before after Wanted result =
     (ending : loop.Ending F) × TellsEnding Tells result ending × RunEnds m Settles Ends place limit before after Wanted ending

@@ -1,1 +1,5 @@
 pub mod Ends
+pub mod Choices
+pub mod Refusal
+pub mod Each
+pub mod EachStands

@@ -8,7 +8,7 @@ use Rattle.rtp_ends.specs.declared.event.Arrival.{Arrival}
 use Rattle.rtp_ends.specs.Numbers.{Heard}
 use Rattle.rtp_ends.specs.Report.{arrival_report, certain_events}
 use Rattle.rtp_ends.specs.Receives.{GivesOut, HasArrived}
-use Rattle.pack_jobs.specs.Refusal.{told}
+use Rattle.job_ends.specs.Refusal.{told}
 use Rattle.net_jobs.specs.declared.receive.ReceiveJob.{ReceiveJob}
 use Rattle.net_jobs.specs.declared.stream.Stream.{Stream}
 use Rattle.net_jobs.specs.Arrive.{RecordSort, arrives, record_sort}

@@ -16,9 +16,10 @@ use Rattle.pack_records.specs.declared.item.Found.{Found}
 use Rattle.pack_records.specs.declared.item.Found.TheVariants.{Packet, Lost, Bad}
 use Rattle.pack_records.specs.declared.item.Item.{Item}
 use Rattle.pack_jobs.specs.declared.refusal.Why.TheVariants.{StoreCut}
-use Rattle.pack_jobs.specs.declared.refusal.Refusal.{Refusal}
-use Rattle.pack_jobs.specs.Refusal.{told, refusal_of, refusal_at}
-use Rattle.pack_jobs.specs.Written.{IsGood, AreGood, FirstBad, IsUncut}
+use Rattle.pack_jobs.specs.Refusal.{refusal_at, Refusal}
+use Rattle.job_ends.specs.Refusal.{told, refusal_of}
+use Rattle.pack_jobs.specs.Written.{IsGood, AreGood, FirstBad}
+use Rattle.job_ends.specs.Each.{IsUncut}
 use Rattle.net_jobs.specs.Capture.{captured, captured_behind, capture_of, captured_packet, packet_text, record_text}
 use Rattle.net_jobs.specs.Given.{given_all}
 use Rattle.net_jobs.specs.Send.{given_of, most_records, send_found, send_end, send}

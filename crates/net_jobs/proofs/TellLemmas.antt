@@ -10,7 +10,7 @@ use Rattle.job_loop.specs.Telling.{Front}
 use Rattle.job_loop.proofs.RunLemmas.{Front-behind, Front-longer}
 use Rattle.rec_store.specs.DemoStore.{demo_head, demo_record}
 use Rattle.rtp_ends.specs.declared.event.Event.{Event}
-use Rattle.pack_jobs.specs.Refusal.{told}
+use Rattle.job_ends.specs.Refusal.{told}
 use Rattle.net_jobs.specs.declared.events.Telling.{Telling}
 use Rattle.net_jobs.specs.Tell.{lost_records, event_text, events_text, missing_of, missing_in}
 

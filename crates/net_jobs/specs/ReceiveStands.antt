@@ -6,7 +6,7 @@ use Rattle.rec_store.specs.declared.stop.StoreFault.{StoreFault}
 use Rattle.dump_records.specs.declared.item.Item.{Item}
 use Rattle.rtp_ends.specs.Report.{arrival_report, certain_events}
 use Rattle.rtp_ends.specs.Receives.{ReceiverStands}
-use Rattle.pack_jobs.specs.Refusal.{told}
+use Rattle.job_ends.specs.Refusal.{told}
 use Rattle.net_jobs.specs.declared.capture_refusal.CaptureRefusal.{CaptureRefusal}
 use Rattle.net_jobs.specs.declared.receive.ReceiveJob.{ReceiveJob}
 use Rattle.net_jobs.specs.Tell.{missing_in}

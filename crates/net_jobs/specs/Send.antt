@@ -13,8 +13,8 @@ use Rattle.pack_records.specs.declared.item.Found.TheVariants.{Packet, Lost, Bad
 use Rattle.pack_records.specs.declared.item.Item.{Item}
 use Rattle.pack_records.specs.Lent.{lent_value}
 use Rattle.pack_jobs.specs.declared.refusal.Why.TheVariants.{StoreCut}
-use Rattle.pack_jobs.specs.declared.refusal.Refusal.{Refusal}
-use Rattle.pack_jobs.specs.Refusal.{refusal_of, refusal_at}
+use Rattle.pack_jobs.specs.Refusal.{refusal_at, Refusal}
+use Rattle.job_ends.specs.Refusal.{refusal_of}
 use Rattle.net_jobs.specs.Capture.{record_text}
 
 -- what the sender is given of a record: the packet that its bytes spell, or None where it is lost

@@ -7,7 +7,7 @@ use Rattle.rtp_packet.specs.declared.packet.RtpFields.{RtpFields}
 use Rattle.rtp_ends.specs.Sends.{SenderStands}
 use Rattle.pack_records.specs.declared.cut.Cut.{Cut}
 use Rattle.pack_records.specs.declared.item.Item.{Item}
-use Rattle.pack_jobs.specs.declared.refusal.Refusal.{Refusal}
+use Rattle.pack_jobs.specs.Refusal.{Refusal}
 use Rattle.net_jobs.specs.declared.send.SendJob.{SendJob}
 use Rattle.net_jobs.specs.Capture.{record_text}
 use Rattle.net_jobs.specs.Send.{send}

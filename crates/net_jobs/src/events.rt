@@ -7,7 +7,7 @@ ghost use Rattle.opus_io.specs.Sink.{SinkCause, Onward};
 ghost use Rattle.job_loop.specs.Telling.{Front};
 ghost use Rattle.rec_store.specs.DemoStore.{demo_head, demo_record};
 ghost use Rattle.rtp_ends.specs.declared.event.Event.TheVariants.{Packet, Gap};
-ghost use Rattle.pack_jobs.specs.Refusal.{told};
+ghost use Rattle.job_ends.specs.Refusal.{told};
 ghost use Rattle.net_jobs.specs.Tell.{event_text, events_text, store_text, lost_records, line_text, packet_line, gap_line, named, missing_of, missing_in};
 
 use arrayvec::ArrayString;

@@ -14,7 +14,8 @@ use Rattle.opus_words.specs.declared.job.Job.{Job}
 use Rattle.opus_words.specs.declared.kind.JobKind.{JobKind}
 use Rattle.opus_words.specs.declared.kind.JobKind.TheVariants.{Norm, Check, Show, Merge, Split, Pad, Apart, Join, Extract, Head, Send, Recv, Replay, Sdp, Make, Trial}
 use Rattle.opus_words.specs.declared.option.Opt.TheVariants as opt
-use Rattle.pack_jobs.specs.PackEnds.{IsPackKind, IsPackJob, PackEnds, form_in, padding_in, settles_in, ends_in}
+use Rattle.pack_jobs.specs.PackEnds.{IsPackKind, IsPackJob, PackEnds, settles_in, ends_in}
+use Rattle.job_ends.specs.Choices.{form_in, padding_in}
 use Rattle.pack_jobs.proofs.PackLemmas as packs
 use Rattle.stream_jobs.specs.StreamEnds.{IsStreamKind, IsStreamForm, IsStreamJob, StreamEnds, form_by, form_of, choices_in}
 use Rattle.stream_jobs.specs.StreamEnds as stream

@@ -3,7 +3,7 @@ use Rattle.std.proofs.Common.{◌≡◌, ℕ, ◌+◌, List, [], ◌∷◌, ◌+
 use Rattle.std.proofs.lemmas.List.Sums.{sum_by-append, sum_by-cons}
 use Rattle.opus_packet.specs.Value.{PacketValue, duration_of}
 use Rattle.opus_packet.specs.Canonical.{canonical}
-use Rattle.pack_jobs.specs.Refusal.{told}
+use Rattle.job_ends.specs.Refusal.{told}
 use Rattle.opuspack.specs.declared.made.MadeRecord.{MadeRecord}
 use Rattle.opuspack.specs.declared.totals.Totals.{Totals}
 use Rattle.opuspack.specs.Made.{made_bytes}

@@ -2,7 +2,7 @@
 use Rattle.std.specs.Prelude.{ℕ, List, [], ◌∷◌, ◌++◌, ◌≡◌, ◌+◌, Option, None, Some, length, sum, sum_by, codes, decimal}
 use Rattle.opus_packet.specs.Value.{PacketValue, duration_of}
 use Rattle.opus_packet.specs.Canonical.{canonical}
-use Rattle.pack_jobs.specs.Refusal.{told}
+use Rattle.job_ends.specs.Refusal.{told}
 use Rattle.opuspack.specs.declared.made.MadeRecord.{MadeRecord}
 use Rattle.opuspack.specs.declared.totals.Totals.{Totals}
 use Rattle.opuspack.specs.Made.{made_bytes}

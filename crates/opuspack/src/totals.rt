@@ -3,7 +3,7 @@ ghost use Rattle.std.specs.Prelude.{◌≡◌, ◌+◌, ◌≤◌, ◌++◌, len
 ghost use Rattle.arrayvec.specs.ArrayString.{array_string_len};
 ghost use Rattle.opus_packet.specs.Value.{duration_of};
 ghost use Rattle.opus_packet.specs.Canonical.{canonical};
-ghost use Rattle.pack_jobs.specs.Refusal.{told};
+ghost use Rattle.job_ends.specs.Refusal.{told};
 ghost use Rattle.opuspack.specs.Totals.{named, totals_line};
 
 use arrayvec::ArrayString;

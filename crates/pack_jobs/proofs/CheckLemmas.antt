@@ -12,11 +12,11 @@ use Rattle.pack_records.specs.declared.item.Found.{Found}
 use Rattle.pack_records.specs.declared.item.Found.TheVariants.{Packet, Lost, Bad}
 use Rattle.pack_records.specs.declared.item.Item.{Item}
 use Rattle.pack_jobs.specs.declared.refusal.Why.TheVariants.{StoreCut}
-use Rattle.pack_jobs.specs.declared.refusal.Refusal.{Refusal}
-use Rattle.pack_jobs.specs.Refusal.{told, refusal_of, refusal_at}
+use Rattle.pack_jobs.specs.Refusal.{refusal_at, Refusal}
+use Rattle.job_ends.specs.Refusal.{told, refusal_of}
 use Rattle.pack_jobs.specs.Check.{CheckKept, kept_of, check_line, found_text, first_then, check_found, check_end, check}
 use Rattle.pack_jobs.specs.Written.{IsGood, AreGood, FirstBad, lines_from}
-use Rattle.pack_jobs.proofs.RunLemmas.{runs-broke}
+use Rattle.job_loop.proofs.RunLemmas.{runs-broke}
 
 abbrev line_at : ℕ → Shown Item → List ℕ
 line_at k r = check_line (told k) (found_text r.item.found)

@@ -7,12 +7,13 @@ use Rattle.job_loop.specs.declared.input_end.InputEnd.TheVariants as ends
 use Rattle.pack_records.specs.declared.cut.Cut.{Cut}
 use Rattle.pack_records.specs.declared.item.Item.{Item}
 use Rattle.pack_jobs.specs.declared.refusal.Why.TheVariants.{StoreCut}
-use Rattle.pack_jobs.specs.declared.refusal.Refusal.{Refusal}
-use Rattle.pack_jobs.specs.Refusal.{told, refusal_of}
+use Rattle.pack_jobs.specs.Refusal.{Refusal}
+use Rattle.job_ends.specs.Refusal.{told, refusal_of}
 use Rattle.pack_jobs.specs.Norm.{norm_end}
-use Rattle.pack_jobs.specs.Written.{IsUncut}
-use Rattle.pack_jobs.specs.Each.{Made, writes, refuses, made_step, each, text_of, texts_from, IsWritten, AreWritten, RefusesWith, FirstRefusedBy}
-use Rattle.pack_jobs.proofs.RunLemmas.{runs-broke, going-text, going≢broke}
+use Rattle.job_ends.specs.Each.{IsUncut, Made, writes, refuses, made_step, text_of, texts_from, IsWritten, AreWritten, RefusesWith, FirstRefusedBy}
+use Rattle.pack_jobs.specs.Each.{each}
+use Rattle.job_loop.proofs.RunLemmas.{runs-broke}
+use Rattle.job_ends.proofs.RunLemmas.{going-text, going≢broke}
 
 -- a step
 

@@ -17,13 +17,14 @@ use Rattle.pack_records.specs.Fits.{FoundFits}
 use Rattle.pack_records.specs.Lent.{lent_value}
 use Rattle.pack_records.proofs.LentLemmas.{lent_value-form}
 use Rattle.pack_jobs.specs.declared.refusal.Why.{Why}
-use Rattle.pack_jobs.specs.declared.refusal.Refusal.{Refusal}
-use Rattle.pack_jobs.specs.Refusal.{told, refusal_of, refusal_at}
+use Rattle.pack_jobs.specs.Refusal.{refusal_at, Refusal}
+use Rattle.job_ends.specs.Refusal.{told, refusal_of}
 use Rattle.pack_jobs.specs.Records.{record_bytes}
 use Rattle.pack_jobs.specs.Merge.{Group, group_of, no_packets, with_packet, takes_none, group_text, put_behind, MergeKept, kept_of, group_goes, merge_put, merge_packet, merge_found, merge}
 use Rattle.pack_jobs.specs.Groups.{Part, packets, lost, records_of, IsPacket, IsLost, IsClosedBy, AreGroups, IsCutInto, CanMerge, CanAllMerge, packet_in, listed, values_of, merged, last_range, texts_of, AreLent}
 use Rattle.pack_jobs.proofs.GroupKinds.{can-more}
-use Rattle.pack_jobs.proofs.RunLemmas.{runs-broke, going-text, going≢broke}
+use Rattle.job_loop.proofs.RunLemmas.{runs-broke}
+use Rattle.job_ends.proofs.RunLemmas.{going-text, going≢broke}
 
 -- ---- the group of some packets
 

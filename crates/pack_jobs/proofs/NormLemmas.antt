@@ -11,12 +11,14 @@ use Rattle.pack_records.specs.declared.item.Found.{Found}
 use Rattle.pack_records.specs.declared.item.Found.TheVariants.{Packet, Lost, Bad}
 use Rattle.pack_records.specs.declared.item.Item.{Item}
 use Rattle.pack_jobs.specs.declared.refusal.Why.TheVariants.{PaddingLong, StoreCut}
-use Rattle.pack_jobs.specs.declared.refusal.Refusal.{Refusal}
-use Rattle.pack_jobs.specs.Refusal.{told, refusal_of, refusal_at}
+use Rattle.pack_jobs.specs.Refusal.{refusal_at, Refusal}
+use Rattle.job_ends.specs.Refusal.{told, refusal_of}
 use Rattle.pack_jobs.specs.Records.{record_bytes}
 use Rattle.pack_jobs.specs.Norm.{is_long, norm_found, norm_end, norm}
-use Rattle.pack_jobs.specs.Written.{payload_of, normal_record, IsTaken, AreTaken, IsRefusedAs, FirstRefused, IsUncut}
-use Rattle.pack_jobs.proofs.RunLemmas.{runs-broke, going-text, going≢broke}
+use Rattle.pack_jobs.specs.Written.{payload_of, normal_record, IsTaken, AreTaken, IsRefusedAs, FirstRefused}
+use Rattle.job_ends.specs.Each.{IsUncut}
+use Rattle.job_loop.proofs.RunLemmas.{runs-broke}
+use Rattle.job_ends.proofs.RunLemmas.{going-text, going≢broke}
 
 -- the record that norm writes for a record that holds this
 abbrev found_record : Form → Shown Item → Found → List ℕ

@@ -25,7 +25,8 @@ use Rattle.pack_jobs.specs.Show.{show}
 use Rattle.pack_jobs.specs.Merge.{merge}
 use Rattle.pack_jobs.specs.Split.{split}
 use Rattle.pack_jobs.specs.Pad.{pad}
-use Rattle.pack_jobs.specs.PackEnds.{place_of, KindEnds, JobEnds, PackEnds, IsPackKind, form_in, padding_in, most_in, size_in, settles_in, ends_in}
+use Rattle.pack_jobs.specs.PackEnds.{place_of, KindEnds, JobEnds, PackEnds, IsPackKind, most_in, size_in, settles_in, ends_in}
+use Rattle.job_ends.specs.Choices.{form_in, padding_in}
 
 -- memory ran out before the first read
 

@@ -21,12 +21,12 @@ use Rattle.pack_records.specs.declared.item.Found.{Found}
 use Rattle.pack_records.specs.declared.item.Found.TheVariants.{Packet, Lost, Bad}
 use Rattle.pack_records.specs.declared.item.Item.{Item}
 use Rattle.pack_jobs.specs.declared.refusal.Why.TheVariants.{StoreCut}
-use Rattle.pack_jobs.specs.declared.refusal.Refusal.{Refusal}
-use Rattle.pack_jobs.specs.Refusal.{told, refusal_of}
-use Rattle.pack_jobs.specs.Written.{IsGood, AreGood, FirstBad, IsUncut}
-use Rattle.pack_jobs.specs.Each.{Made, IsWritten, AreWritten, RefusesWith, texts_from}
+use Rattle.pack_jobs.specs.Refusal.{Refusal}
+use Rattle.job_ends.specs.Refusal.{told, refusal_of}
+use Rattle.pack_jobs.specs.Written.{IsGood, AreGood, FirstBad}
+use Rattle.job_ends.specs.Each.{IsUncut, Made, IsWritten, AreWritten, RefusesWith, texts_from}
 use Rattle.pack_jobs.specs.Split.{piece_counts, pieces, split_found, split_record, split, HasFullPieces}
-use Rattle.pack_jobs.proofs.EachLemmas.{each_written, each_refused, each_cut}
+use Rattle.job_ends.proofs.EachLemmas.{each_written, each_refused, each_cut}
 use Rattle.pack_jobs.proofs.PieceLemmas.{counts_by}
 
 -- ---- records

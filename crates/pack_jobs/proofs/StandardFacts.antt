@@ -19,7 +19,8 @@ use Rattle.pack_records.specs.declared.item.Item.{Item}
 use Rattle.pack_records.specs.Holds.{record_of, bad_record, lost_record}
 use Rattle.pack_records.specs.Lent.{lent_value}
 use Rattle.pack_jobs.specs.declared.refusal.Why.TheVariants.{Fault, PaddingLong, StoreCut, MixedKind}
-use Rattle.pack_jobs.specs.Refusal.{refusal_of, refusal_text, fault_text}
+use Rattle.pack_jobs.specs.Refusal.{refusal_text, fault_text}
+use Rattle.job_ends.specs.Refusal.{refusal_of}
 use Rattle.pack_jobs.specs.Norm.{norm}
 use Rattle.pack_jobs.specs.Merge.{merge}
 use Rattle.pack_jobs.specs.Split.{split}

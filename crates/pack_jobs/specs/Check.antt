@@ -12,8 +12,8 @@ use Rattle.pack_records.specs.declared.item.Found.{Found}
 use Rattle.pack_records.specs.declared.item.Found.TheVariants.{Packet, Lost, Bad}
 use Rattle.pack_records.specs.declared.item.Item.{Item}
 use Rattle.pack_jobs.specs.declared.refusal.Why.TheVariants.{StoreCut}
-use Rattle.pack_jobs.specs.declared.refusal.Refusal.{Refusal}
-use Rattle.pack_jobs.specs.Refusal.{told, refusal_of, refusal_at, fault_text}
+use Rattle.pack_jobs.specs.Refusal.{refusal_at, fault_text, Refusal}
+use Rattle.job_ends.specs.Refusal.{told, refusal_of}
 
 -- the number of records so far, and the first refusal
 pub record CheckKept : Type 0 where

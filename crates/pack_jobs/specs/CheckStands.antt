@@ -5,8 +5,8 @@ use Rattle.job_loop.specs.Meaning.{Meaning}
 use Rattle.pack_records.specs.declared.cut.Cut.{Cut}
 use Rattle.pack_records.specs.declared.item.Item.{Item}
 use Rattle.pack_jobs.specs.declared.check.Check.{Check}
-use Rattle.pack_jobs.specs.declared.refusal.Refusal.{Refusal}
-use Rattle.pack_jobs.specs.Refusal.{told}
+use Rattle.pack_jobs.specs.Refusal.{Refusal}
+use Rattle.job_ends.specs.Refusal.{told}
 use Rattle.pack_jobs.specs.Check.{check, CheckKept}
 
 -- the job over records of the object's form

@@ -14,8 +14,8 @@ use Rattle.pack_records.specs.declared.item.Item.{Item}
 use Rattle.pack_records.specs.Lent.{lent_value}
 use Rattle.pack_jobs.specs.declared.refusal.Why.{Why}
 use Rattle.pack_jobs.specs.declared.refusal.Why.TheVariants.{StoreCut, MixedKind, TooLong}
-use Rattle.pack_jobs.specs.declared.refusal.Refusal.{Refusal}
-use Rattle.pack_jobs.specs.Refusal.{told, refusal_of, refusal_at}
+use Rattle.pack_jobs.specs.Refusal.{refusal_at, Refusal}
+use Rattle.job_ends.specs.Refusal.{told, refusal_of}
 use Rattle.pack_jobs.specs.Records.{record_bytes, canonical_record}
 
 -- An open group: the value of all its frames, if it has packets; how many packets more it takes, where there is a

@@ -5,8 +5,8 @@ use Rattle.job_loop.specs.Meaning.{Meaning}
 use Rattle.pack_records.specs.declared.cut.Cut.{Cut}
 use Rattle.pack_records.specs.declared.item.Item.{Item}
 use Rattle.pack_jobs.specs.declared.merge.Merge.{Merge}
-use Rattle.pack_jobs.specs.declared.refusal.Refusal.{Refusal}
-use Rattle.pack_jobs.specs.Refusal.{told}
+use Rattle.pack_jobs.specs.Refusal.{Refusal}
+use Rattle.job_ends.specs.Refusal.{told}
 use Rattle.pack_jobs.specs.Merge.{Group, group_of, MergeKept, merge}
 
 -- the job over records of the object's form

@@ -17,8 +17,7 @@ use Rattle.pack_records.specs.declared.item.Item.{Item}
 use Rattle.pack_records.specs.Raw.{RawSettles, RawEnds}
 use Rattle.pack_records.specs.Demo.{DemoSettles, DemoEnds}
 use Rattle.pack_records.specs.Framed.{SelfSettles, SelfEnds}
-use Rattle.pack_jobs.specs.declared.refusal.Refusal.{Refusal}
-use Rattle.pack_jobs.specs.Refusal.{Tells}
+use Rattle.pack_jobs.specs.Refusal.{Tells, Refusal}
 use Rattle.pack_jobs.specs.Norm.{norm}
 use Rattle.pack_jobs.specs.Check.{check}
 use Rattle.pack_jobs.specs.Show.{show}

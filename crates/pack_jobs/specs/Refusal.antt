@@ -1,24 +1,27 @@
--- Why an input is refused: the record's number, the place in the input, and a reason; and how it is told.
-use Rattle.std.specs.Prelude.{◌≡◌, ℕ, ◌+◌, ◌-◌, ◌^◌, List, ◌++◌, codes, decimal, min}
+-- Why a job over packets refuses an input; and how it is told.
+use Rattle.std.specs.Prelude.{ℕ, ◌+◌, List, ◌++◌, codes, decimal}
 use Rattle.opus_packet.specs.declared.fault.Rule.{Rule}
 use Rattle.opus_packet.specs.declared.fault.Rule.TheVariants.{R1, R2, R3, R4, R5, R6, R7, PadLimit, Cut}
 use Rattle.opus_packet.specs.declared.fault.Fault as faults
 use Rattle.opus_words.specs.declared.ending.JobFault.{JobFault}
+use Rattle.job_ends.specs.declared.refusal.Refusal as refused
+use Rattle.job_ends.specs.Refusal as refusals
+use Rattle.job_ends.specs.Refusal.{told, refusal_of}
+use Rattle.pack_records.specs.declared.cut.Cut as cuts
 use Rattle.pack_records.specs.declared.item.Item.{Item}
 use Rattle.pack_jobs.specs.declared.refusal.Why.{Why}
 use Rattle.pack_jobs.specs.declared.refusal.Why.TheVariants as why
-use Rattle.pack_jobs.specs.declared.refusal.Refusal.{Refusal}
 
--- a number or place as it is told, in 64 bits: itself, up to the greatest of them
-abbrev pub told : ℕ → ℕ
-told n = min n (2 ^ 64 - 1)
-
-abbrev pub refusal_of : ℕ → ℕ → Why → Refusal
-refusal_of index place why = record { index = index; place = place; why = why }
+abbrev pub Refusal : Type 0
+Refusal = refused.Refusal Why
 
 -- the refusal for a record that holds no packet, where this number is told for it
 abbrev pub refusal_at : ℕ → Item → faults.Fault → Refusal
 refusal_at index item fault = refusal_of index (told (item.start + fault.place)) (why.Fault fault)
+
+-- the refusal for a cut of a store, where this number is told for the cut record
+abbrev pub cut_refusal : ℕ → cuts.Cut → Refusal
+cut_refusal index cut = refusal_of index cut.place why.StoreCut
 
 abbrev pub rule_name : Rule → List ℕ
 rule_name R1 = codes "R1"
@@ -47,4 +50,4 @@ refusal_text why.PadLimit = codes "pad limit"
 
 -- the refusal that a program's fault tells
 abbrev pub Tells : JobFault → Refusal → Type 0
-Tells f r = (f.index ≡ r.index) × (f.place ≡ r.place) × (f.text.bytes ≡ refusal_text r.why)
+Tells = refusals.Tells refusal_text

@@ -10,10 +10,11 @@ use Rattle.pack_records.specs.declared.item.Found.TheVariants.{Packet, Lost, Bad
 use Rattle.pack_records.specs.declared.item.Item.{Item}
 use Rattle.pack_records.specs.Lent.{lent_value}
 use Rattle.pack_jobs.specs.declared.refusal.Why.TheVariants.{Fault}
-use Rattle.pack_jobs.specs.declared.refusal.Refusal.{Refusal}
-use Rattle.pack_jobs.specs.Refusal.{told}
+use Rattle.pack_jobs.specs.Refusal.{Refusal}
+use Rattle.job_ends.specs.Refusal.{told}
 use Rattle.pack_jobs.specs.PacketLines.{packet_lines}
-use Rattle.pack_jobs.specs.Each.{Made, writes, refuses, text_of, each}
+use Rattle.pack_jobs.specs.Each.{each}
+use Rattle.job_ends.specs.Each.{Made, writes, refuses, text_of}
 
 -- `K: lost`
 abbrev pub lost_line : ℕ → List ℕ
@@ -26,11 +27,11 @@ value_lines number shape size None = []
 
 -- what is made of record K. The bytes that are lent of a packet tell its value; its shape and its size are those of the
 -- spelling that was read
-abbrev pub show_found : ℕ → Shown Item → Found → Made
+abbrev pub show_found : ℕ → Shown Item → Found → Made Why
 show_found number r (Packet framing shape size) =
     writes (value_lines number shape size (lent_value framing r.bytes))
 show_found number r Lost = writes (lost_line number)
-show_found number r (Bad fault) = refuses (told (r.item.start + fault.place)) (Fault fault)
+show_found number r (Bad fault) = bad_made r.item fault
 
 abbrev pub show : Meaning (Shown Item) ℕ Cut Refusal
 show = each (λ number r. show_found (told number) r r.item.found)

@@ -11,10 +11,11 @@ use Rattle.pack_records.specs.declared.item.Found.TheVariants.{Packet, Lost, Bad
 use Rattle.pack_records.specs.declared.item.Item.{Item}
 use Rattle.pack_records.specs.Lent.{lent_value}
 use Rattle.pack_jobs.specs.declared.refusal.Why.TheVariants.{Fault}
-use Rattle.pack_jobs.specs.declared.refusal.Refusal.{Refusal}
-use Rattle.pack_jobs.specs.Refusal.{told}
+use Rattle.pack_jobs.specs.Refusal.{Refusal}
+use Rattle.job_ends.specs.Refusal.{told}
 use Rattle.pack_jobs.specs.Records.{record_bytes, canonical_record}
-use Rattle.pack_jobs.specs.Each.{Made, writes, refuses, text_of, each}
+use Rattle.pack_jobs.specs.Each.{each}
+use Rattle.job_ends.specs.Each.{Made, writes, refuses, text_of}
 
 -- how many frames the pieces of so many frames have: `most` each, and the last one what is left
 abbrev pub piece_counts : ℕ → ℕ → List ℕ
@@ -46,11 +47,11 @@ abbrev pub split_text : Form → ℕ → ℕ → Option PacketValue → List ℕ
 split_text form most range (Some v) = piece_records form range (pieces most v)
 split_text form most range None = []
 
-abbrev pub split_found : Form → ℕ → Shown Item → Found → Made
+abbrev pub split_found : Form → ℕ → Shown Item → Found → Made Why
 split_found form most r (Packet framing shape size) =
     writes (split_text form most r.item.range (lent_value framing r.bytes))
 split_found form most r Lost = writes (record_bytes form r.item.range [])
-split_found form most r (Bad fault) = refuses (told (r.item.start + fault.place)) (Fault fault)
+split_found form most r (Bad fault) = bad_made r.item fault
 
 -- what a record becomes
 abbrev pub split_record : Form → ℕ → Shown Item → List ℕ

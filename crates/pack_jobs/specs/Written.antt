@@ -12,8 +12,8 @@ use Rattle.pack_records.specs.declared.item.Found.{Found}
 use Rattle.pack_records.specs.declared.item.Found.TheVariants.{Packet, Lost, Bad}
 use Rattle.pack_records.specs.declared.item.Item.{Item}
 use Rattle.pack_jobs.specs.declared.refusal.Why.TheVariants.{PaddingLong}
-use Rattle.pack_jobs.specs.declared.refusal.Refusal.{Refusal}
-use Rattle.pack_jobs.specs.Refusal.{told, refusal_of, refusal_at}
+use Rattle.pack_jobs.specs.Refusal.{refusal_at, Refusal}
+use Rattle.job_ends.specs.Refusal.{told, refusal_of}
 use Rattle.pack_jobs.specs.Records.{record_bytes}
 use Rattle.pack_jobs.specs.Norm.{is_long}
 use Rattle.pack_jobs.specs.Check.{check_line, found_text}

@@ -4,7 +4,8 @@ ghost use Rattle.std.specs.Io.KnownBytes.{Appends};
 ghost use Rattle.opus_io.specs.Sink.{SinkCause, Onward};
 ghost use Rattle.job_loop.specs.Telling.{Front};
 ghost use Rattle.pack_jobs.specs.Check.{check, CheckKept, check_line, first_refusal};
-ghost use Rattle.pack_jobs.specs.Refusal.{fault_text, refusal_of};
+ghost use Rattle.pack_jobs.specs.Refusal.{fault_text};
+ghost use Rattle.job_ends.specs.Refusal.{refusal_of};
 ghost use Rattle.pack_jobs.specs.declared.refusal.Why.TheVariants.{StoreCut};
 
 use crate::line::Line;

@@ -3,7 +3,7 @@ ghost use Rattle.std.specs.Prelude.{◌≡◌, ◌++◌, [], IfOk, OnOk, OnErr};
 ghost use Rattle.std.specs.Io.KnownBytes.{Appends};
 ghost use Rattle.opus_io.specs.Sink.{SinkCause, Onward};
 ghost use Rattle.job_loop.specs.Telling.{Front};
-ghost use Rattle.pack_jobs.specs.Refusal.{refusal_of};
+ghost use Rattle.job_ends.specs.Refusal.{refusal_of};
 ghost use Rattle.pack_records.specs.Lent.{lent_value};
 ghost use Rattle.pack_jobs.specs.Records.{record_bytes};
 ghost use Rattle.pack_jobs.specs.Merge.{merge, MergeKept, put_behind, lent_behind, with_packet, with_lent, no_packets, next_group, group_text, full_text};

@@ -1,7 +1,7 @@
 //! The job norm: each packet in its kept form.
 ghost use Rattle.std.specs.Prelude.{◌≡◌, ℕ};
 ghost use Rattle.pack_jobs.specs.Norm.{norm, is_long};
-ghost use Rattle.pack_jobs.specs.Refusal.{refusal_of};
+ghost use Rattle.job_ends.specs.Refusal.{refusal_of};
 
 use crate::record::write_record;
 use crate::refusal::{Refusal, Why, refusal_at};

@@ -4,7 +4,8 @@ ghost use Rattle.opus_io.specs.Reader.{max_input};
 ghost use Rattle.job_loop.specs.Shown.{Shown};
 ghost use Rattle.job_loop.specs.Meaning.{Meaning};
 ghost use Rattle.job_ends.specs.Ends.{seen_as};
-ghost use Rattle.pack_jobs.specs.PackEnds.{IsPackKind, IsPackJob, PackEnds, JobEnds, MeaningEnds, place_of, form_in, padding_in, most_in, size_in};
+ghost use Rattle.pack_jobs.specs.PackEnds.{IsPackKind, IsPackJob, PackEnds, JobEnds, MeaningEnds, place_of, most_in, size_in};
+ghost use Rattle.job_ends.specs.Choices.{form_in, padding_in};
 
 use crate::check::Check;
 use crate::merge::Merge;

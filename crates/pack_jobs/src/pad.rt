@@ -1,7 +1,7 @@
 //! The job pad: each packet in its padded form of a size.
 ghost use Rattle.std.specs.Prelude.{◌≡◌, ◌<◌, ◌≤◌, ◌^◌, ℕ, Ok, Err, IfOk, OnOk, length, vec_capacity};
 ghost use Rattle.pack_jobs.specs.Pad.{pad, padded_of};
-ghost use Rattle.pack_jobs.specs.Refusal.{refusal_of};
+ghost use Rattle.job_ends.specs.Refusal.{refusal_of};
 
 use crate::record::write_record;
 use crate::refusal::{Refusal, Why, refusal_at};

@@ -23,19 +23,21 @@ use Rattle.rec_store.specs.DemoStore.{demo_record, IsDemoRecord}
 use Rattle.rec_store.proofs.DemoLemmas.{demo_record-front, length-demo_record}
 use Rattle.pack_records.specs.declared.cut.Cut.{Cut}
 use Rattle.pack_records.specs.Demo.{StoreRecord, IsStoreRecord}
-use Rattle.pack_jobs.specs.Refusal.{told}
+use Rattle.job_ends.specs.Refusal.{told}
 use Rattle.pack_jobs.specs.Records.{record_bytes}
 use Rattle.pack_jobs.proofs.FormSizes.{form_sizes}
 use Rattle.stream_records.specs.declared.item.StreamsItem.{StreamsItem}
 use Rattle.stream_records.specs.Holds.{Choices, Holds, HoldsStreams, held_as, spelling_of}
 use Rattle.stream_records.specs.Raw.{RawEnds}
 use Rattle.stream_records.specs.Demo.{ShowsPayload, ShowsRest, ShowsStore}
-use Rattle.stream_jobs.specs.Each.{Made, writes, Makes, found_made, made_of}
-use Rattle.stream_jobs.specs.Written.{text_of, texts_from, IsWritten, AreWritten}
+use Rattle.stream_jobs.specs.declared.refusal.StreamWhy.{StreamWhy}
+use Rattle.stream_jobs.specs.Each.{Makes, found_made, made_of}
+use Rattle.job_ends.specs.Each.{Made, writes, text_of, texts_from, IsWritten, AreWritten}
 use Rattle.stream_jobs.specs.Norm.{long_from, long_in, norm_packets, norm_makes, norm}
 use Rattle.stream_jobs.specs.StreamEnds.{ends_in}
 use Rattle.stream_jobs.specs.Contents.{Content, content_of, HoldsHeld, HasStreams, IsStored, AreStored, IsOnePacket, AreContents}
-use Rattle.stream_jobs.proofs.EachLemmas.{each_written}
+use Rattle.job_ends.proofs.EachLemmas.{each_written}
+use Rattle.stream_jobs.specs.Refusal.{cut_refusal}
 
 -- ---- what is held of so many streams
 
@@ -111,7 +113,7 @@ long_text : (form : Form) (streams : ℕ) (r : Shown StreamsItem) (o : Option �
 long_text form streams r None written = refl
 long_text form streams r (Some stream) written = absurd written
 
-abbrev pub norm_made : Form → Choices → ℕ → Shown StreamsItem → Made
+abbrev pub norm_made : Form → Choices → ℕ → Shown StreamsItem → Made StreamWhy
 norm_made form c number r = made_of c.streams (norm_makes form c.streams c.padding) (told number) r
 
 pub content_written : (form : Form) (c : Choices) (number range : ℕ) (o : Option (List HeldRead)) (r : Shown StreamsItem)
@@ -224,7 +226,7 @@ pub norm_text : (form : Form) (c : Choices) (rs : List (Shown StreamsItem)) (xs 
     → AreContents form c rs xs → outcome (norm form c.streams c.padding) rs d ≡ going a tt
     → a ≡ flat_map (content_text form) xs
 norm_text form c rs xs d a are e =
-    let (written, uncut, is) = (each_written (norm_made form c) rs d a).0 e in
+    let (written, uncut, is) = (each_written cut_refusal (norm_made form c) rs d a).0 e in
     is ∙ contents_text form c rs xs are written
 
 pub norm_agree : (form : Form) (c d : Choices) (rs ss : List (Shown StreamsItem)) (xs ys : List Content)
@@ -302,7 +304,7 @@ pub norm_contents : (form : Form) (c : Choices) (x : List ℕ) (rs : List (Shown
     (end : InputEnd Cut) (text : List ℕ) → ends_in form c x rs cut
     → outcome (norm form c.streams c.padding) rs end ≡ going text tt → (xs : List Content) × AreContents form c rs xs
 norm_contents form c x rs cut end text ends e =
-    let (written, uncut, is) = (each_written (norm_made form c) rs end text).0 e in
+    let (written, uncut, is) = (each_written cut_refusal (norm_made form c) rs end text).0 e in
     form_contents form c (norm_makes form c.streams c.padding) x rs cut ends written
 
 -- ---- where padding bytes are dropped

@@ -11,7 +11,7 @@ use Rattle.opus_packet.specs.Value.{PacketValue, duration_of}
 use Rattle.pack_records.specs.declared.item.Item.{Item}
 use Rattle.stream_jobs.specs.declared.refusal.StreamWhy.{StreamWhy}
 use Rattle.stream_jobs.specs.declared.refusal.StreamWhy.TheVariants as why
-use Rattle.stream_jobs.specs.declared.refusal.StreamRefusal.{StreamRefusal}
+use Rattle.stream_jobs.specs.Refusal.{StreamRefusal}
 use Rattle.stream_jobs.specs.JoinParts.{samples_in}
 use Rattle.stream_jobs.specs.Join.{Part, part_of, held_in, joined, differs, differs_in, JoinKept, kept_of, group_goes, join_put, join_held, closed_why, closed_step, join}
 use Rattle.stream_jobs.specs.JoinGroups.{IsPart, AreParts, AreAlike, IsGroup, all_of, groups_text, JoinsTo}

@@ -31,7 +31,7 @@ use Rattle.pack_records.specs.Demo.{StoreRecord, store_of, IsStoreRecord, ShowsP
 use Rattle.pack_records.specs.DemoRests.{some_shows}
 use Rattle.pack_records.proofs.DemoFronts.{undecided_short}
 use Rattle.pack_records.proofs.LentLemmas.{lent_value-spelled}
-use Rattle.pack_jobs.specs.Refusal.{told}
+use Rattle.job_ends.specs.Refusal.{told}
 use Rattle.pack_jobs.proofs.FormSizes.{form_sizes}
 use Rattle.pack_jobs.proofs.FormBytes.{form-are}
 use Rattle.stream_records.specs.declared.item.StreamsFound.{StreamsFound}
@@ -39,22 +39,24 @@ use Rattle.stream_records.specs.declared.item.StreamsFound.TheVariants as found
 use Rattle.stream_records.specs.declared.item.StreamsItem.{StreamsItem}
 use Rattle.stream_records.specs.Holds.{Choices, HoldsStreams, held_as, lost_record}
 use Rattle.stream_records.specs.Demo as streams_demo
-use Rattle.stream_jobs.specs.Each.{Made, writes, found_made, made_of}
-use Rattle.stream_jobs.specs.Written.{text_of, texts_from, IsWritten, AreWritten}
+use Rattle.stream_jobs.specs.declared.refusal.StreamWhy.{StreamWhy}
+use Rattle.stream_jobs.specs.Each.{found_made, made_of}
+use Rattle.job_ends.specs.Each.{Made, writes, text_of, texts_from, IsWritten, AreWritten}
 use Rattle.stream_jobs.specs.Norm.{norm_makes}
 use Rattle.stream_jobs.specs.Apart.{stream_records, lost_records, apart_makes, apart}
 use Rattle.stream_jobs.specs.JoinParts.{samples_in}
 use Rattle.stream_jobs.specs.Join.{Part, part_of, values_of, ranges_of, packets_in, xor_of, joined}
 use Rattle.stream_jobs.specs.JoinGroups.{IsPart, AreParts, IsGroup, all_of, groups_text}
 use Rattle.stream_jobs.specs.JoinAgain.{IsGood, AreGood, with_range, IsJoinedAgain}
-use Rattle.stream_jobs.proofs.EachLemmas.{each_written}
+use Rattle.job_ends.proofs.EachLemmas.{each_written}
+use Rattle.stream_jobs.specs.Refusal.{cut_refusal}
 use Rattle.stream_jobs.proofs.LawLemmas.{apart-held, norm-dropped}
 use Rattle.stream_jobs.proofs.GroupsLemmas.{groups-joins}
 use Rattle.stream_jobs.proofs.AgreeLemmas.{made_good, bare_held}
 
 -- ---- which records apart takes
 
-abbrev apart_made : ℕ → ℕ → Shown StreamsItem → Made
+abbrev apart_made : ℕ → ℕ → Shown StreamsItem → Made StreamWhy
 apart_made streams number r = made_of streams (apart_makes streams) (told number) r
 
 good_by : (streams number : ℕ) (r : Shown StreamsItem) (found : StreamsFound)
@@ -84,9 +86,9 @@ all_written streams number (r ∷ rs) good =
 pub apart_taken : (streams : ℕ) (rs : List (Shown StreamsItem))
     → ((text : List ℕ) × (outcome (apart streams) rs Closed ≡ going text tt)) ↔ AreGood rs
 apart_taken streams rs = (
-  λ (text, e). all_good streams 0 rs ((each_written (apart_made streams) rs Closed text).0 e).0,
+  λ (text, e). all_good streams 0 rs ((each_written cut_refusal (apart_made streams) rs Closed text).0 e).0,
   λ good. let text = texts_from (apart_made streams) 0 rs in
-      (text, (each_written (apart_made streams) rs Closed text).1 (all_written streams 0 rs good, tt, refl)),
+      (text, (each_written cut_refusal (apart_made streams) rs Closed text).1 (all_written streams 0 rs good, tt, refl)),
 )
 
 -- ---- a store of canonical packets, and lost ones, with range 0
@@ -219,7 +221,7 @@ alike_parts samples (o ∷ os) each = (each.0, alike_parts samples os each.1)
 
 -- ---- what becomes of one record
 
-abbrev norm_made : ℕ → ℕ → Shown StreamsItem → Made
+abbrev norm_made : ℕ → ℕ → Shown StreamsItem → Made StreamWhy
 norm_made streams number r = made_of streams (norm_makes Demo streams Drop) (told number) r
 
 record HasGroup (streams : ℕ) (r : Shown StreamsItem) : Type 0 where
@@ -448,7 +450,7 @@ pub joined_again : (streams : ℕ) (x : List ℕ) (rs : List (Shown StreamsItem)
     → IsJoinedAgain streams rs text
 joined_again streams x rs text some ends e =
     let front = ends.1 in
-    let (written, uncut, is) = (each_written (apart_made streams) rs Closed text).0 e in
+    let (written, uncut, is) = (each_written cut_refusal (apart_made streams) rs Closed text).0 e in
     let all = store_groups streams 0 0 front.whole ends.0 rs front.shows
     (AreBytes-left (store_of front.whole) ends.0 (subst AreBytes front.parts front.are_bytes)) written in
     let out = groups_text all.groups in
@@ -463,5 +465,5 @@ joined_again streams x rs text some ends e =
             each = all.each;
             text_is = refl;
           };
-      norms = (each_written (norm_made streams) (map (with_range 0) rs) Closed out).1 (all.norm_written, tt, sym all.norm_text);
+      norms = (each_written cut_refusal (norm_made streams) (map (with_range 0) rs) Closed out).1 (all.norm_written, tt, sym all.norm_text);
     }

@@ -17,7 +17,8 @@ use Rattle.pack_records.specs.Holds.{record_of, bad_record, lost_record}
 use Rattle.pack_records.specs.Lent.{lent_value}
 use Rattle.pack_jobs.specs.Refusal.{fault_text}
 use Rattle.stream_jobs.specs.declared.refusal.StreamWhy.TheVariants.{Fault, StreamFault, Unequal, LostPart, ShortGroup, StoreCut, StreamPaddingLong}
-use Rattle.stream_jobs.specs.Refusal.{refusal_of, why_text}
+use Rattle.stream_jobs.specs.Refusal.{why_text}
+use Rattle.job_ends.specs.Refusal.{refusal_of}
 use Rattle.stream_jobs.specs.Join.{join, joined}
 
 -- one frame of 20 ms, and one of 10 ms; a lost record

@@ -12,7 +12,7 @@ use Rattle.opus_multi.specs.Forms.{canonical_multistream}
 use Rattle.opus_multi.proofs.WriteLemmas.{forms_push}
 use Rattle.pack_records.specs.declared.item.Item.{Item}
 use Rattle.rec_store.specs.DemoStore.{demo_head}
-use Rattle.pack_jobs.specs.Refusal.{told}
+use Rattle.job_ends.specs.Refusal.{told}
 use Rattle.stream_jobs.specs.declared.join.Join.{Join}
 use Rattle.stream_jobs.specs.Join.{Part, part_of, values_of, ranges_of, packets_in, xor_behind, xor_of, joined, differs, differs_in, full_text, next_group, JoinKept, kept_of, group_goes, join_held, held_in}
 use Rattle.stream_jobs.specs.JoinParts.{form_at, samples_in}

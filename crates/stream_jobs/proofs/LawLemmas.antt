@@ -14,7 +14,8 @@ use Rattle.opus_words.specs.declared.form.Form.{Form}
 use Rattle.pack_jobs.specs.Records.{record_bytes}
 use Rattle.stream_records.specs.declared.item.StreamsItem.{StreamsItem}
 use Rattle.stream_records.specs.Holds.{Choices, held_as, spelling_of, packets_record, HoldsStreams}
-use Rattle.stream_jobs.specs.Each.{writes, Makes, found_made, made_of}
+use Rattle.stream_jobs.specs.Each.{Makes, found_made, made_of}
+use Rattle.job_ends.specs.Each.{writes}
 use Rattle.stream_jobs.specs.Norm.{long_from, long_in, norm_packets, norm_makes}
 use Rattle.stream_jobs.specs.Apart.{stream_record, stream_records, apart_makes}
 use Rattle.stream_jobs.specs.Extract.{value_record, extract_makes}

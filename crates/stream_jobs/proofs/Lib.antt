@@ -8,7 +8,6 @@ pub mod SoFar
 pub mod StreamsInLemmas
 pub mod ApartLemmas
 pub mod StreamLemmas
-pub mod EachLemmas
 pub mod LawLemmas
 pub mod ShowLemmas
 pub mod ApartJoined

@@ -29,7 +29,7 @@ use Rattle.opus_words.specs.declared.form.Form.{Form}
 use Rattle.opus_words.specs.declared.form.Form.TheVariants.{Raw, Demo, SelfDelimited}
 use Rattle.pack_records.specs.declared.cut.Cut.{Cut}
 use Rattle.pack_records.specs.Demo.{StoreRecord, store_of, IsStoreRecord}
-use Rattle.pack_jobs.specs.Refusal.{told}
+use Rattle.job_ends.specs.Refusal.{told}
 use Rattle.pack_jobs.proofs.FormBytes.{form-are}
 use Rattle.stream_records.specs.declared.item.StreamsItem.{StreamsItem}
 use Rattle.stream_records.specs.Holds.{Choices, HoldsStreams, held_as, lost_record, packets_record}
@@ -38,12 +38,13 @@ use Rattle.stream_records.specs.Demo.{ShowsPayload, ShowsRest, ShowsStore, DemoE
 use Rattle.stream_records.specs.DemoRests.{some_shows}
 use Rattle.stream_records.proofs.DemoFronts.{undecided_short}
 use Rattle.stream_records.proofs.LentLemmas.{lent_values}
-use Rattle.stream_jobs.specs.Written.{texts_from, IsWritten, AreWritten}
+use Rattle.job_ends.specs.Each.{texts_from, IsWritten, AreWritten}
 use Rattle.stream_jobs.specs.Norm.{norm_makes, norm}
 use Rattle.stream_jobs.specs.StreamEnds.{ends_in}
 use Rattle.stream_jobs.specs.Contents.{Content, content_of, HoldsHeld, IsStored, AreStored, AreContents}
 use Rattle.stream_jobs.specs.NormAgain.{IsNormAgain}
-use Rattle.stream_jobs.proofs.EachLemmas.{each_written}
+use Rattle.job_ends.proofs.EachLemmas.{each_written}
+use Rattle.stream_jobs.specs.Refusal.{cut_refusal}
 use Rattle.stream_jobs.proofs.LawLemmas.{norm-held}
 use Rattle.stream_jobs.proofs.AgreeLemmas.{kept_small, are_held, form_some, held_fits, payload_in, content_text, norm_made, norm_text, made_good}
 
@@ -225,7 +226,7 @@ again_same : (form : Form) (c : Choices) (rs ss : List (Shown StreamsItem)) (xs 
     → outcome (norm form c.streams c.padding) ss Closed ≡ going text tt
 again_same form c rs ss xs end text held again written e =
     let own = texts_from (norm_made form c) 0 ss in
-    let writes_own = (each_written (norm_made form c) ss Closed own).1 (written, tt, refl) in
+    let writes_own = (each_written cut_refusal (norm_made form c) ss Closed own).1 (written, tt, refl) in
     let is : own ≡ text =
     norm_text form c ss xs Closed own again writes_own ∙ sym (norm_text form c rs xs end text held e) in
     subst (λ l. outcome (norm form c.streams c.padding) ss Closed ≡ going l tt) is writes_own
@@ -235,7 +236,7 @@ again_same form c rs ss xs end text held again written e =
 raw_again : (c : Choices) (x : List ℕ) (rs : List (Shown StreamsItem)) (cut : Option Cut) (end : InputEnd Cut) (text : List ℕ)
     → RawEnds c x rs cut → outcome (norm Raw c.streams c.padding) rs end ≡ going text tt → IsNormAgain Raw c rs text
 raw_again c x rs cut end text ends e =
-    let (written, uncut, is) = (each_written (norm_made Raw c) rs end text).0 e in
+    let (written, uncut, is) = (each_written cut_refusal (norm_made Raw c) rs end text).0 e in
     let all = subst (AreWritten (norm_made Raw c) 0) ends.records_are written in
     let holds = made_good c (norm_makes Raw c.streams c.padding) (told 0) 0 0 x ends.shown ends.holds all.0 in
     let hs = held_in c 0 0 x ends.shown holds in
@@ -394,7 +395,7 @@ demo_again : (c : Choices) (x : List ℕ) (rs : List (Shown StreamsItem)) (cut :
     → IsNormAgain Demo c rs text
 demo_again c x rs cut end text most ends e =
     let front = ends.1 in
-    let (written, uncut, is) = (each_written (norm_made Demo c) rs end text).0 e in
+    let (written, uncut, is) = (each_written cut_refusal (norm_made Demo c) rs end text).0 e in
     let all = store_again c 0 0 0 front.whole ends.0 rs most front.shows front.are
     (AreBytes-left (store_of front.whole) ends.0 (subst AreBytes front.parts front.are_bytes)) written in
     let text_is : text ≡ store_of (map stored all.contents) =

@@ -12,11 +12,10 @@ use Rattle.rec_store.specs.DemoStore.{demo_record}
 use Rattle.rec_store.proofs.DemoLemmas.{length-demo_record}
 use Rattle.pack_records.specs.declared.item.Item.{Item}
 use Rattle.pack_records.specs.Demo.{StoreRecord, store_of, ShowsPayload, ShowsStore, ShowsRest, DemoEnds, cut_at}
-use Rattle.pack_jobs.specs.Refusal.{told}
+use Rattle.job_ends.specs.Refusal.{told, refusal_of}
 use Rattle.stream_jobs.specs.declared.refusal.StreamWhy.{StreamWhy}
 use Rattle.stream_jobs.specs.declared.refusal.StreamWhy.TheVariants as why
-use Rattle.stream_jobs.specs.declared.refusal.StreamRefusal.{StreamRefusal}
-use Rattle.stream_jobs.specs.Refusal.{refusal_of, refusal_at}
+use Rattle.stream_jobs.specs.Refusal.{refusal_at, StreamRefusal}
 use Rattle.stream_jobs.specs.Join.{Part, part_of, held_in, differs, differs_in, JoinKept, kept_of, full_text, next_group, join_put, join_held, closed_why, closed_step, join}
 
 -- ---- a short group is told behind the last record

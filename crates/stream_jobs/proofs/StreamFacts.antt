@@ -16,7 +16,7 @@ use Rattle.stream_records.specs.declared.item.StreamsFound.TheVariants.{Packets,
 use Rattle.stream_records.specs.declared.item.StreamsItem.{StreamsItem}
 use Rattle.stream_records.specs.Holds.{record_of, lost_record}
 use Rattle.stream_jobs.specs.declared.refusal.StreamWhy.TheVariants as why
-use Rattle.stream_jobs.specs.Refusal.{refusal_of}
+use Rattle.job_ends.specs.Refusal.{refusal_of}
 use Rattle.stream_jobs.specs.StreamsIn.{first_value}
 use Rattle.stream_jobs.specs.Norm.{norm}
 use Rattle.stream_jobs.specs.Check.{check}

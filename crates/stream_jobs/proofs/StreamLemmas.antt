@@ -16,6 +16,7 @@ use Rattle.stream_records.specs.declared.item.StreamsItem.{StreamsItem}
 use Rattle.stream_records.specs.Holds.{Choices, ShowsEarly}
 use Rattle.stream_records.specs.HoldsLaws.{stand_sizes}
 use Rattle.stream_records.proofs.DemoFronts.{undecided_short}
+use Rattle.job_ends.specs.Choices.{padding_in}
 use Rattle.job_ends.proofs.EndsLemmas.{unstarted_ends}
 use Rattle.stream_jobs.specs.Refusal.{Tells}
 use Rattle.stream_jobs.specs.Norm.{norm}
@@ -23,7 +24,7 @@ use Rattle.stream_jobs.specs.Check.{check}
 use Rattle.stream_jobs.specs.Show.{show}
 use Rattle.stream_jobs.specs.Apart.{apart}
 use Rattle.stream_jobs.specs.Extract.{extract}
-use Rattle.stream_jobs.specs.StreamEnds.{place_of, KindEnds, JobEnds, StreamEnds, IsStreamKind, IsStreamForm, form_of, padding_of, streams_of, stream_of, choices_in, settles_in, ends_in}
+use Rattle.stream_jobs.specs.StreamEnds.{place_of, KindEnds, JobEnds, StreamEnds, IsStreamKind, IsStreamForm, form_of, streams_of, stream_of, choices_in, settles_in, ends_in}
 
 -- memory ran out before the first read
 
@@ -33,7 +34,7 @@ pub unstarted_kind : (kind : JobKind) → IsStreamKind kind → (job : Job)
     (Untouched : Type 0) → Untouched → Settles [] []
     → KindEnds kind job Settles Ends limit outside outside Untouched NoMemory
 unstarted_kind kinds.Norm is job =
-    unstarted_ends Tells place_of (norm (form_of job) (streams_of job) (padding_of job))
+    unstarted_ends Tells place_of (norm (form_of job) (streams_of job) (padding_in job))
 unstarted_kind kinds.Check is job = unstarted_ends Tells place_of (check (streams_of job))
 unstarted_kind kinds.Show is job = unstarted_ends Tells place_of (show (streams_of job))
 unstarted_kind kinds.Merge is job = absurd is
@@ -83,6 +84,6 @@ by_form job limit before after Untouched result form c form_is c_is ends =
     (subst (λ f. JobEnds job (settles_in f c) (ends_in f c) limit before after Untouched result) form_is ends)
 
 -- the choices that a form was made with
-pub choices_are : (job : Job) (streams : ℕ) (padding : Padding) → streams ≡ streams_of job → padding ≡ padding_of job
+pub choices_are : (job : Job) (streams : ℕ) (padding : Padding) → streams ≡ streams_of job → padding ≡ padding_in job
     → record { streams = streams; padding = padding } ≡ choices_in job
 choices_are job streams padding streams_is padding_is = rw (streams_is, padding_is) refl

@@ -9,9 +9,10 @@ use Rattle.opus_words.specs.declared.form.Form.TheVariants.{Demo}
 use Rattle.pack_records.specs.declared.cut.Cut.{Cut}
 use Rattle.pack_jobs.specs.Records.{record_bytes, canonical_record}
 use Rattle.stream_records.specs.declared.item.StreamsItem.{StreamsItem}
-use Rattle.stream_jobs.specs.declared.refusal.StreamRefusal.{StreamRefusal}
+use Rattle.stream_jobs.specs.Refusal.{StreamRefusal}
 use Rattle.stream_jobs.specs.StreamsIn.{streams_in}
-use Rattle.stream_jobs.specs.Each.{writes, Makes, each}
+use Rattle.stream_jobs.specs.Each.{Makes, each}
+use Rattle.job_ends.specs.Each.{writes}
 
 -- a packet of this value as a record of a store
 abbrev pub stream_record : PacketValue → List ℕ

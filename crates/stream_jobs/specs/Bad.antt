@@ -1,7 +1,7 @@
 -- Why a record that holds no multistream packet is refused, and where; or one whose padding bytes aren't kept.
 use Rattle.std.specs.Prelude.{ℕ, ◌+◌, ◌==◌, if◌then◌else◌}
 use Rattle.opus_packet.specs.declared.fault.Fault as faults
-use Rattle.pack_jobs.specs.Refusal.{told}
+use Rattle.job_ends.specs.Refusal.{told}
 use Rattle.stream_jobs.specs.declared.refusal.StreamWhy.{StreamWhy}
 use Rattle.stream_jobs.specs.declared.refusal.StreamWhy.TheVariants as why
 

@@ -5,14 +5,13 @@ use Rattle.job_loop.specs.Meaning.{Meaning, Step, goes, stops}
 use Rattle.job_loop.specs.declared.input_end.InputEnd.{InputEnd}
 use Rattle.job_loop.specs.declared.input_end.InputEnd.TheVariants as ends
 use Rattle.pack_records.specs.declared.cut.Cut.{Cut}
-use Rattle.pack_jobs.specs.Refusal.{told}
+use Rattle.job_ends.specs.Refusal.{told, refusal_of}
 use Rattle.pack_jobs.specs.Check.{check_line}
 use Rattle.stream_records.specs.declared.item.StreamsFound.{StreamsFound}
 use Rattle.stream_records.specs.declared.item.StreamsFound.TheVariants.{Packets, Lost, Broken, Unequal}
 use Rattle.stream_records.specs.declared.item.StreamsItem.{StreamsItem}
 use Rattle.stream_jobs.specs.declared.refusal.StreamWhy.TheVariants as why
-use Rattle.stream_jobs.specs.declared.refusal.StreamRefusal.{StreamRefusal}
-use Rattle.stream_jobs.specs.Refusal.{refusal_of, why_text}
+use Rattle.stream_jobs.specs.Refusal.{why_text, StreamRefusal}
 use Rattle.stream_jobs.specs.Bad.{fault_why, bad_place}
 
 -- the number of records so far, and the first refusal

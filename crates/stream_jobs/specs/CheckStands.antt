@@ -1,6 +1,6 @@
 -- What the object of the job check stands for.
 use Rattle.std.specs.Prelude.{◌≡◌}
-use Rattle.pack_jobs.specs.Refusal.{told}
+use Rattle.job_ends.specs.Refusal.{told}
 use Rattle.stream_jobs.specs.declared.check.Check.{Check}
 use Rattle.stream_jobs.specs.Check.{CheckKept}
 

@@ -5,10 +5,11 @@ use Rattle.job_loop.specs.Meaning.{Meaning}
 use Rattle.opus_packet.specs.Value.{PacketValue}
 use Rattle.pack_records.specs.declared.cut.Cut.{Cut}
 use Rattle.stream_records.specs.declared.item.StreamsItem.{StreamsItem}
-use Rattle.stream_jobs.specs.declared.refusal.StreamRefusal.{StreamRefusal}
+use Rattle.stream_jobs.specs.Refusal.{StreamRefusal}
 use Rattle.stream_jobs.specs.StreamsIn.{streams_in}
 use Rattle.stream_jobs.specs.Apart.{stream_record, lost_record}
-use Rattle.stream_jobs.specs.Each.{writes, Makes, each}
+use Rattle.stream_jobs.specs.Each.{Makes, each}
+use Rattle.job_ends.specs.Each.{writes}
 
 -- a record for the value, if there is one; a record's packet has one for each stream
 abbrev pub value_record : Option PacketValue → List ℕ

@@ -13,11 +13,10 @@ use Rattle.pack_records.specs.declared.item.Found.{Found}
 use Rattle.pack_records.specs.declared.item.Found.TheVariants.{Packet, Lost, Bad}
 use Rattle.pack_records.specs.declared.item.Item.{Item}
 use Rattle.pack_records.specs.Lent.{lent_value}
-use Rattle.pack_jobs.specs.Refusal.{told}
+use Rattle.job_ends.specs.Refusal.{told, refusal_of}
 use Rattle.stream_jobs.specs.declared.refusal.StreamWhy.{StreamWhy}
 use Rattle.stream_jobs.specs.declared.refusal.StreamWhy.TheVariants.{Unequal, LostPart, ShortGroup, StoreCut}
-use Rattle.stream_jobs.specs.declared.refusal.StreamRefusal.{StreamRefusal}
-use Rattle.stream_jobs.specs.Refusal.{refusal_of, refusal_at}
+use Rattle.stream_jobs.specs.Refusal.{refusal_at, StreamRefusal}
 
 -- a record of a group: the value of its packet, or None where it is lost; and its range
 pub record Part : Type 0 where

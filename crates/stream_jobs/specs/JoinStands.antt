@@ -6,9 +6,9 @@ use Rattle.opus_packet.specs.Value.{PacketValue}
 use Rattle.opus_packet.specs.Canonical.{canonical_self_delimited}
 use Rattle.pack_records.specs.declared.cut.Cut.{Cut}
 use Rattle.pack_records.specs.declared.item.Item.{Item}
-use Rattle.pack_jobs.specs.Refusal.{told}
+use Rattle.job_ends.specs.Refusal.{told}
 use Rattle.stream_jobs.specs.declared.join.Join.{Join}
-use Rattle.stream_jobs.specs.declared.refusal.StreamRefusal.{StreamRefusal}
+use Rattle.stream_jobs.specs.Refusal.{StreamRefusal}
 use Rattle.stream_jobs.specs.JoinParts.{samples_in}
 use Rattle.stream_jobs.specs.Join.{Part, JoinKept, join, values_of, ranges_of, packets_in, xor_of, differs_in}
 

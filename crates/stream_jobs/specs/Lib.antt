@@ -6,7 +6,6 @@ pub mod JoinEnds
 pub mod JoinGroups
 pub mod Bad
 pub mod Each
-pub mod Written
 pub mod StreamsIn
 pub mod Norm
 pub mod Apart

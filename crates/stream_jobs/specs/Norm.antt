@@ -9,9 +9,11 @@ use Rattle.pack_records.specs.declared.cut.Cut.{Cut}
 use Rattle.pack_jobs.specs.Records.{record_bytes}
 use Rattle.stream_records.specs.declared.item.Spelling.{Spelling}
 use Rattle.stream_records.specs.declared.item.StreamsItem.{StreamsItem}
-use Rattle.stream_jobs.specs.declared.refusal.StreamRefusal.{StreamRefusal}
+use Rattle.stream_jobs.specs.declared.refusal.StreamWhy.{StreamWhy}
+use Rattle.stream_jobs.specs.Refusal.{StreamRefusal}
 use Rattle.stream_jobs.specs.Bad.{long_why}
-use Rattle.stream_jobs.specs.Each.{Made, writes, refuses, Makes, each}
+use Rattle.stream_jobs.specs.Each.{Makes, each}
+use Rattle.job_ends.specs.Each.{Made, writes, refuses}
 
 -- the first stream of which padding bytes weren't kept, where the first of these has this number
 abbrev pub long_from : ℕ → List Spelling → Option ℕ
@@ -24,7 +26,7 @@ long_in Drop ss = None
 long_in Keep ss = long_from 0 ss
 
 -- the kept form is what is lent of a record
-abbrev pub norm_packets : Form → ℕ → Shown StreamsItem → Option ℕ → Made
+abbrev pub norm_packets : Form → ℕ → Shown StreamsItem → Option ℕ → Made StreamWhy
 norm_packets form streams r None = writes (record_bytes form r.item.range r.bytes)
 norm_packets form streams r (Some stream) = refuses r.item.place (long_why streams stream)
 

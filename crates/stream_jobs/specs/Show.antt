@@ -8,9 +8,10 @@ use Rattle.pack_jobs.specs.PacketLines.{packet_lines}
 use Rattle.pack_jobs.specs.Show.{lost_line}
 use Rattle.stream_records.specs.declared.item.Spelling.{Spelling}
 use Rattle.stream_records.specs.declared.item.StreamsItem.{StreamsItem}
-use Rattle.stream_jobs.specs.declared.refusal.StreamRefusal.{StreamRefusal}
+use Rattle.stream_jobs.specs.Refusal.{StreamRefusal}
 use Rattle.stream_jobs.specs.StreamsIn.{streams_in}
-use Rattle.stream_jobs.specs.Each.{writes, Makes, each}
+use Rattle.stream_jobs.specs.Each.{Makes, each}
+use Rattle.job_ends.specs.Each.{writes}
 
 -- the lines of streams of record K, of which the first has this index: how each was spelled, and its value
 abbrev pub stream_lines : ℕ → ℕ → List Spelling → List PacketValue → List ℕ

@@ -3,8 +3,6 @@ use Rattle.std.specs.Prelude.{ℕ, List, unwrap_or, Option, max}
 use Rattle.opus_io.specs.Outside.{Outside}
 use Rattle.job_loop.specs.Shown.{Shown}
 use Rattle.job_loop.specs.Meaning.{Meaning}
-use Rattle.opus_feed.specs.declared.padding.Padding.{Padding}
-use Rattle.opus_feed.specs.declared.padding.Padding.TheVariants as paddings
 use Rattle.opus_words.specs.declared.form.Form.{Form}
 use Rattle.opus_words.specs.declared.form.Form.TheVariants.{Raw, Demo, SelfDelimited}
 use Rattle.opus_words.specs.declared.kind.JobKind.{JobKind}
@@ -12,13 +10,14 @@ use Rattle.opus_words.specs.declared.kind.JobKind.TheVariants.{Norm, Check, Show
 use Rattle.opus_words.specs.declared.job.Job.{Job}
 use Rattle.opus_words.specs.declared.ending.Ending.{Ending}
 use Rattle.job_ends.specs.Ends as ends
+use Rattle.job_ends.specs.Ends.{RunOver}
+use Rattle.job_ends.specs.Choices.{padding_in}
 use Rattle.pack_records.specs.declared.cut.Cut.{Cut}
 use Rattle.stream_records.specs.declared.item.StreamsItem.{StreamsItem}
 use Rattle.stream_records.specs.Holds.{Choices}
 use Rattle.stream_records.specs.Raw.{RawSettles, RawEnds}
 use Rattle.stream_records.specs.Demo.{DemoSettles, DemoEnds}
-use Rattle.stream_jobs.specs.declared.refusal.StreamRefusal.{StreamRefusal}
-use Rattle.stream_jobs.specs.Refusal.{Tells}
+use Rattle.stream_jobs.specs.Refusal.{Tells, StreamRefusal}
 use Rattle.stream_jobs.specs.Norm.{norm}
 use Rattle.stream_jobs.specs.Check.{check}
 use Rattle.stream_jobs.specs.Show.{show}
@@ -53,34 +52,27 @@ pub record IsStreamJob (job : Job) : Type 0 where
   pub kind : IsStreamKind job.kind
   pub form : IsStreamForm (form_of job)
 
--- How many streams a packet has: one at least, also where the words name none. Which of them is chosen. What becomes of
--- padding bytes: they are dropped where the job takes no such option.
+-- How many streams a packet has: one at least, also where the words name none. Which of them is chosen.
 abbrev pub streams_of : Job → ℕ
 streams_of job = max 1 (unwrap_or job.streams 1)
 
 abbrev pub stream_of : Job → ℕ
 stream_of job = unwrap_or job.stream 0
 
-abbrev pub padding_of : Job → Padding
-padding_of job = unwrap_or job.padding paddings.Drop
-
 abbrev pub choices_in : Job → Choices
-choices_in job = record { streams = streams_of job; padding = padding_of job }
+choices_in job = record { streams = streams_of job; padding = padding_in job }
 
 -- where a record was decided
 abbrev pub place_of : Shown StreamsItem → ℕ
 place_of r = r.item.place
 
 -- how a run of a job over multistream packets ended
-abbrev pub MeaningEnds : {K : Type 0} → Meaning (Shown StreamsItem) K Cut StreamRefusal
-    → (List ℕ → List (Shown StreamsItem) → Type 0) → (List ℕ → List (Shown StreamsItem) → Option Cut → Type 0) → ℕ
-    → Outside → Outside → Type 0 → Ending → Type 0
+abbrev pub MeaningEnds : {K : Type 0} → Meaning (Shown StreamsItem) K Cut StreamRefusal → RunOver (Shown StreamsItem) Cut
 MeaningEnds m = ends.MeaningEnds Tells place_of m
 
 -- what the job of a kind means over records of its form: one line a job
-abbrev pub KindEnds : JobKind → Job → (List ℕ → List (Shown StreamsItem) → Type 0)
-    → (List ℕ → List (Shown StreamsItem) → Option Cut → Type 0) → ℕ → Outside → Outside → Type 0 → Ending → Type 0
-KindEnds Norm job = MeaningEnds (norm (form_of job) (streams_of job) (padding_of job))
+abbrev pub KindEnds : JobKind → Job → RunOver (Shown StreamsItem) Cut
+KindEnds Norm job = MeaningEnds (norm (form_of job) (streams_of job) (padding_in job))
 KindEnds Check job = MeaningEnds (check (streams_of job))
 KindEnds Show job = MeaningEnds (show (streams_of job))
 KindEnds Apart job = MeaningEnds (apart (streams_of job))
@@ -88,8 +80,7 @@ KindEnds Extract job = MeaningEnds (extract (streams_of job) (stream_of job))
 KindEnds kind job = λ Settles Ends limit before after Untouched result. ⊥
 
 -- the job ended as its meaning has it, where Settles and Ends say which records its input has
-abbrev pub JobEnds : Job → (List ℕ → List (Shown StreamsItem) → Type 0)
-    → (List ℕ → List (Shown StreamsItem) → Option Cut → Type 0) → ℕ → Outside → Outside → Type 0 → Ending → Type 0
+abbrev pub JobEnds : Job → RunOver (Shown StreamsItem) Cut
 JobEnds job = KindEnds job.kind job
 
 -- the records that bytes of a form settle, and those of a whole input: one line a form

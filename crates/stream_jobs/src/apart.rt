@@ -6,7 +6,7 @@ ghost use Rattle.job_loop.specs.Telling.{Front};
 ghost use Rattle.stream_jobs.specs.StreamsIn.{streams_in};
 ghost use Rattle.stream_jobs.specs.Apart.{apart_makes, stream_records, lost_records};
 
-use crate::each::Make;
+use crate::of_streams::MakeStreams;
 use crate::refusal::StreamRefusal;
 use crate::stream_packets::StreamPackets;
 use job_loop::{JobStop, Lent};
@@ -21,7 +21,7 @@ pub(crate) struct Apart {
     pub streams: u8,
 }
 
-impl Make for Apart {
+impl MakeStreams for Apart {
     ghost makes = { λ a. apart_makes a.streams };
 
     fn packets<O: Sink>(

@@ -5,7 +5,8 @@ ghost use Rattle.opus_io.specs.Sink.{SinkCause, Onward};
 ghost use Rattle.job_loop.specs.Telling.{Front};
 ghost use Rattle.pack_jobs.specs.Check.{check_line};
 ghost use Rattle.stream_jobs.specs.Check.{check, CheckKept};
-ghost use Rattle.stream_jobs.specs.Refusal.{refusal_of, why_text};
+ghost use Rattle.stream_jobs.specs.Refusal.{why_text};
+ghost use Rattle.job_ends.specs.Refusal.{refusal_of};
 
 use crate::bad::{bad_place, fault_why};
 use crate::refusal::{StreamRefusal, StreamWhy};

@@ -4,7 +4,7 @@ ghost use Rattle.std.specs.Option.{option_map};
 ghost use Rattle.stream_jobs.specs.StreamsIn.{streams_in};
 ghost use Rattle.stream_jobs.specs.Extract.{extract_makes};
 
-use crate::each::Make;
+use crate::of_streams::MakeStreams;
 use crate::refusal::StreamRefusal;
 use crate::stream_packets::StreamPackets;
 use job_loop::{JobStop, Lent};
@@ -21,7 +21,7 @@ pub(crate) struct Extract {
     pub stream: u8,
 }
 
-impl Make for Extract {
+impl MakeStreams for Extract {
     ghost makes = { λ e. extract_makes e.streams e.stream };
 
     fn packets<O: Sink>(

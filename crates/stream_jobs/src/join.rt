@@ -7,7 +7,7 @@ ghost use Rattle.opus_io.specs.Sink.{SinkCause, Onward};
 ghost use Rattle.opus_packet.specs.Value.{PacketValue};
 ghost use Rattle.job_ends.specs.Ends.{seen_as};
 ghost use Rattle.job_loop.specs.Telling.{Front};
-ghost use Rattle.stream_jobs.specs.Refusal.{refusal_of};
+ghost use Rattle.job_ends.specs.Refusal.{refusal_of};
 ghost use Rattle.stream_jobs.specs.Join.{Part, JoinKept, join, part_of, held_in, differs_in, full_text, next_group};
 ghost use Rattle.stream_jobs.specs.JoinEnds.{JoinEnds};
 ghost use Rattle.stream_jobs.specs.JoinParts.{form_at, samples_in};

@@ -6,10 +6,9 @@ ghost use Rattle.job_loop.specs.declared.input_end.InputEnd.TheVariants.{Closed}
 ghost use Rattle.opus_feed.specs.declared.padding.Padding.TheVariants.{Drop};
 ghost use Rattle.pack_records.specs.Demo.{DemoEnds};
 ghost use Rattle.pack_records.specs.declared.item.Item.{Item};
-ghost use Rattle.pack_jobs.specs.Refusal.{told};
-ghost use Rattle.stream_jobs.specs.declared.refusal.StreamRefusal.{StreamRefusal};
+ghost use Rattle.job_ends.specs.Refusal.{told, refusal_of};
+ghost use Rattle.stream_jobs.specs.Refusal.{StreamRefusal};
 ghost use Rattle.stream_jobs.specs.declared.refusal.StreamWhy.TheVariants.{ShortGroup};
-ghost use Rattle.stream_jobs.specs.Refusal.{refusal_of};
 ghost use Rattle.stream_jobs.specs.Join.{join};
 ghost use Rattle.stream_jobs.specs.JoinGroups.{JoinsTo};
 

@@ -12,16 +12,15 @@ ghost use Rattle.opus_multi.specs.Forms.{kept_multistream};
 ghost use Rattle.opus_words.specs.declared.form.Form.{Form};
 ghost use Rattle.opus_words.specs.declared.form.Form.TheVariants.{Demo};
 ghost use Rattle.pack_records.specs.declared.cut.Cut.{Cut};
-ghost use Rattle.pack_jobs.specs.Refusal.{told};
+ghost use Rattle.job_ends.specs.Refusal.{told, refusal_of};
 ghost use Rattle.pack_jobs.specs.Records.{record_bytes};
-ghost use Rattle.pack_jobs.specs.Written.{IsUncut};
+ghost use Rattle.job_ends.specs.Each.{IsUncut, Made, writes, texts_from, AreWritten, FirstRefusedBy};
 ghost use Rattle.stream_records.specs.declared.item.StreamsItem.{StreamsItem};
 ghost use Rattle.stream_records.specs.Holds.{Choices, HoldsStreams, held_as, spelling_of};
+ghost use Rattle.stream_jobs.specs.declared.refusal.StreamWhy.{StreamWhy};
 ghost use Rattle.stream_jobs.specs.declared.refusal.StreamWhy.TheVariants.{StoreCut};
-ghost use Rattle.stream_jobs.specs.declared.refusal.StreamRefusal.{StreamRefusal};
-ghost use Rattle.stream_jobs.specs.Refusal.{refusal_of};
-ghost use Rattle.stream_jobs.specs.Each.{Made, Makes, writes, made_of, each, each_of};
-ghost use Rattle.stream_jobs.specs.Written.{texts_from, AreWritten, FirstRefusedBy};
+ghost use Rattle.stream_jobs.specs.Refusal.{StreamRefusal};
+ghost use Rattle.stream_jobs.specs.Each.{Makes, made_of, each, each_of};
 ghost use Rattle.stream_jobs.specs.StreamsIn.{streams_in};
 ghost use Rattle.stream_jobs.specs.Norm.{norm_makes};
 ghost use Rattle.stream_jobs.specs.Apart.{stream_record, stream_records, apart_makes};
@@ -34,13 +33,13 @@ ghost use Rattle.stream_jobs.specs.Join.{part_of, joined};
 pub fn a_job_on_each_record_writes_them_in_order()
     ensures each { (streams : ℕ) (makes : Makes)
         → each streams makes ≡ each_of (λ number r. made_of streams makes (told number) r) }
-    ensures written { (made : ℕ → Shown StreamsItem → Made) (rs : List (Shown StreamsItem)) (end : InputEnd Cut)
+    ensures written { (made : ℕ → Shown StreamsItem → Made StreamWhy) (rs : List (Shown StreamsItem)) (end : InputEnd Cut)
         (text : List ℕ) → (outcome (each_of made) rs end ≡ going text tt)
         ↔ (AreWritten made 0 rs × IsUncut end × (text ≡ texts_from made 0 rs)) }
-    ensures refused { (made : ℕ → Shown StreamsItem → Made) (rs : List (Shown StreamsItem)) (end : InputEnd Cut)
+    ensures refused { (made : ℕ → Shown StreamsItem → Made StreamWhy) (rs : List (Shown StreamsItem)) (end : InputEnd Cut)
         (f : StreamRefusal) (at : FirstRefusedBy made rs f)
         → outcome (each_of made) rs end ≡ broke (texts_from made 0 at.before) f }
-    ensures cut { (made : ℕ → Shown StreamsItem → Made) (rs : List (Shown StreamsItem)) (c : Cut)
+    ensures cut { (made : ℕ → Shown StreamsItem → Made StreamWhy) (rs : List (Shown StreamsItem)) (c : Cut)
         → AreWritten made 0 rs → outcome (each_of made) rs (ends.Cut c)
         ≡ broke (texts_from made 0 rs) (refusal_of (told (length rs)) c.place StoreCut) }
 {}

@@ -3,7 +3,7 @@ ghost use Rattle.std.specs.Prelude.{◌≡◌, ◌≤◌, length};
 ghost use Rattle.stream_jobs.specs.Norm.{norm_makes, long_from, long_in};
 
 use crate::bad::long_why;
-use crate::each::Make;
+use crate::of_streams::MakeStreams;
 use crate::refusal::StreamRefusal;
 use job_loop::{JobStop, Lent};
 use opus_feed::Padding;
@@ -47,7 +47,7 @@ fn first_dropped(streams: &[Spelling]) -> Option<u8>
     None
 }
 
-impl Make for Norm {
+impl MakeStreams for Norm {
     ghost makes = { λ n. norm_makes n.form n.streams n.padding };
 
     fn packets<O: Sink>(

@@ -1,13 +1,13 @@
 //! Why a job over packets of several streams refuses an input, in numbers, and the text of it.
 ghost use Rattle.std.specs.Prelude.{◌≡◌, ◌≤◌, ◌+◌, ◌++◌, length};
 ghost use Rattle.arrayvec.specs.ArrayString.{array_string_len};
-ghost use Rattle.stream_jobs.specs.Refusal.{why_text, stream_text, Tells};
+ghost use Rattle.stream_jobs.specs.Refusal.{why_text, stream_text, cut_refusal};
 
 use arrayvec::ArrayString;
-use job_ends::Told;
+use job_ends::{CutReason, Reason, Refusal, text_of};
 use opus_packet::Fault;
-use opus_words::JobFault;
 use pack_jobs::{decimal_text, fault_text};
+use pack_records::Cut;
 
 /// Why an input is refused. A stream is told by its index in its packet, from 0.
 #[derive(Clone, Copy, Debug, PartialEq, Eq)]
@@ -30,27 +30,25 @@ pub enum StreamWhy {
     StreamPaddingLong(u8),
 }
 
-/// A refused input. Its text is made at the end of the run alone.
-#[derive(Clone, Copy, Debug, PartialEq, Eq)]
-pub struct StreamRefusal {
-    /// The record's number, from 0.
-    pub index: u64,
-    /// The place, in bytes from the input's beginning.
-    pub place: u64,
-    /// What is wrong there.
-    pub why: StreamWhy,
+/// A refused input of packets of several streams.
+pub type StreamRefusal = Refusal<StreamWhy>;
+
+impl Reason for StreamWhy {
+    ghost words = { why_text };
+
+    fn text(self) -> ArrayString<64> {
+        why_text(self)
+    }
 }
 
-impl Told for StreamRefusal {
-    ghost tells = { Tells };
+impl CutReason<Cut> for StreamWhy {
+    ghost cut_refusal = { cut_refusal };
 
-    #[cold]
-    #[inline(never)]
-    fn fault(self) -> JobFault {
-        JobFault {
-            index: self.index,
-            place: self.place,
-            text: why_text(self.why),
+    fn cut(index: u64, cut: &Cut) -> StreamRefusal {
+        StreamRefusal {
+            index,
+            place: cut.place,
+            why: StreamWhy::StoreCut,
         }
     }
 }
@@ -85,15 +83,5 @@ fn stream_text(before: &str, stream: u8, behind: &str) -> ArrayString<64>
     text.push_str("stream ");
     text.push_str(decimal_text(u64::from(stream)).as_str());
     text.push_str(behind);
-    text
-}
-
-fn text_of(words: &str) -> ArrayString<64>
-    requires { length words.now ≤ 64 }
-    ensures text { result.bytes ≡ words.now }
-    ensures len { array_string_len result ≡ length words.now }
-{
-    let mut text = ArrayString::new();
-    text.push_str(words);
     text
 }

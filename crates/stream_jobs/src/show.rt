@@ -7,7 +7,7 @@ ghost use Rattle.pack_jobs.specs.Show.{lost_line};
 ghost use Rattle.stream_jobs.specs.StreamsIn.{streams_in};
 ghost use Rattle.stream_jobs.specs.Show.{show_makes, stream_lines};
 
-use crate::each::Make;
+use crate::of_streams::MakeStreams;
 use crate::refusal::StreamRefusal;
 use crate::stream_packets::StreamPackets;
 use arrayvec::ArrayString;
@@ -22,7 +22,7 @@ pub(crate) struct Show {
     pub streams: u8,
 }
 
-impl Make for Show {
+impl MakeStreams for Show {
     ghost makes = { λ s. show_makes s.streams };
 
     fn packets<O: Sink>(

@@ -1,21 +1,18 @@
 //! The jobs over multistream packets, by their kinds and forms.
 ghost use Rattle.std.specs.Prelude.{◌≡◌, ◌≤◌, [], IfOk};
 ghost use Rattle.opus_io.specs.Reader.{max_input};
-ghost use Rattle.job_loop.specs.Shown.{Shown};
-ghost use Rattle.job_loop.specs.Meaning.{Meaning};
 ghost use Rattle.job_ends.specs.Ends.{seen_as};
-ghost use Rattle.stream_jobs.specs.StreamEnds.{IsStreamKind, IsStreamJob, StreamEnds, JobEnds, MeaningEnds, place_of, form_of, padding_of, streams_of, stream_of};
+ghost use Rattle.job_ends.specs.Choices.{padding_in};
+ghost use Rattle.stream_jobs.specs.StreamEnds.{IsStreamKind, IsStreamJob, StreamEnds, JobEnds, place_of, form_of, streams_of, stream_of};
 
 use crate::apart::Apart;
 use crate::check::Check;
-use crate::each::Each;
 use crate::extract::Extract;
 use crate::norm::Norm;
-use crate::refusal::StreamRefusal;
+use crate::of_streams::OfStreams;
 use crate::show::Show;
-use job_ends::run_made;
-use job_loop::{Form as RecordForm, RecordJob};
-use opus_feed::Padding;
+use job_ends::{Each, padding_in, run_over};
+use job_loop::Form as RecordForm;
 use opus_io::{NoMemory, Sink, Source};
 use opus_words::{Ending, Form, Job, JobKind};
 use pack_records::Cut;
@@ -31,13 +28,6 @@ fn form_of(job: &Job) -> Form
         JobKind::Extract => Form::Demo,
         _ => job.form.unwrap_or(Form::Raw),
     }
-}
-
-// What becomes of padding bytes.
-fn padding_of(job: &Job) -> Padding
-    ensures { result ≡ padding_of job.now }
-{
-    job.padding.unwrap_or(Padding::Drop)
 }
 
 // How many streams a packet has.
@@ -59,12 +49,12 @@ fn stream_of(job: &Job) -> u8
 fn norm_of(job: &Job) -> Norm
     ensures form { result.form ≡ form_of job.now }
     ensures streams { result.streams ≡ streams_of job.now }
-    ensures padding { result.padding ≡ padding_of job.now }
+    ensures padding { result.padding ≡ padding_in job.now }
 {
     Norm {
         form: form_of(job),
         streams: streams_of(job),
-        padding: padding_of(job),
+        padding: padding_in(job),
     }
 }
 
@@ -88,22 +78,22 @@ pub fn stream_job<S: Source, O: Sink>(
         (source.new ≡ source.old) result }
 {
     let streams = streams_of(job);
-    let padding = padding_of(job);
+    let padding = padding_in(job);
     match form_of(job) {
         Form::Raw => {
             let records = RawStreams::new(alloc, streams, padding);
-            run_form(alloc, job, limit, records, source, out)
+            run_kind(alloc, job, limit, records, source, out)
         }
         Form::Demo => {
             let records = DemoStreams::new(alloc, streams, padding);
-            run_form(alloc, job, limit, records, source, out)
+            run_kind(alloc, job, limit, records, source, out)
         }
         Form::SelfDelimited => unreachable!(),
     }
 }
 
-// Does a job over records of a form, if there was memory for it.
-fn run_form<F, S, O>(
+// Does a job over records of a form, if there was memory for it: one line a job.
+fn run_kind<F, S, O>(
     alloc: Global,
     job: &Job,
     limit: u64,
@@ -127,86 +117,29 @@ where
         (seen_as (S.left source.new) (S.faults source.new) (O.contents out.new) (O.faults out.new) (O.refusals out.new))
         (source.new ≡ source.old) result }
 {
-    match records {
-        Ok(records) => run_kind(alloc, job, limit, records, source, out),
-        Err(NoMemory) => Ending::NoMemory,
-    }
-}
-
-// Does a job over records of a form, which was fed nothing yet: one line a job.
-fn run_kind<F, S, O>(
-    alloc: Global,
-    job: &Job,
-    limit: u64,
-    records: F,
-    source: &mut S,
-    out: &mut O,
-) -> Ending
-where
-    F: RecordForm<Record = StreamsItem, Cut = Cut> + Drop,
-    S: Source,
-    O: Sink,
-    requires some { 1 ≤ limit }
-    requires most { limit ≤ max_input }
-    requires kind { IsStreamKind job.now.kind }
-    requires stands { F.stands records [] [] }
-    requires place { F.place ≡ place_of }
-    requires form_spared { (layout : F.Layout) → F.lacks layout → ⊥ }
-    ensures { JobEnds job.now (F.settles (F.layout records)) (F.ends (F.layout records)) limit
-        (seen_as (S.left source.old) (S.faults source.old) (O.contents out.old) (O.faults out.old) (O.refusals out.old))
-        (seen_as (S.left source.new) (S.faults source.new) (O.contents out.new) (O.faults out.new) (O.refusals out.new))
-        (source.new ≡ source.old) result }
-{
     let streams = streams_of(job);
     match job.kind {
         JobKind::Norm => {
-            let norm = Each::new(norm_of(job), streams);
-            run_over(alloc, limit, records, norm, source, out)
+            let norm = Each::new(OfStreams::new(norm_of(job), streams));
+            run_over(alloc, limit, records, Ok(norm), source, out)
         }
-        JobKind::Check => run_over(alloc, limit, records, Check::new(streams), source, out),
+        JobKind::Check => {
+            let check = Check::new(streams);
+            run_over(alloc, limit, records, Ok(check), source, out)
+        }
         JobKind::Show => {
-            let show = Each::new(Show { streams }, streams);
-            run_over(alloc, limit, records, show, source, out)
+            let show = Each::new(OfStreams::new(Show { streams }, streams));
+            run_over(alloc, limit, records, Ok(show), source, out)
         }
         JobKind::Apart => {
-            let apart = Each::new(Apart { streams }, streams);
-            run_over(alloc, limit, records, apart, source, out)
+            let apart = Each::new(OfStreams::new(Apart { streams }, streams));
+            run_over(alloc, limit, records, Ok(apart), source, out)
         }
         JobKind::Extract => {
             let stream = stream_of(job);
-            let extract = Each::new(Extract { streams, stream }, streams);
-            run_over(alloc, limit, records, extract, source, out)
+            let extract = Each::new(OfStreams::new(Extract { streams, stream }, streams));
+            run_over(alloc, limit, records, Ok(extract), source, out)
         }
         _ => unreachable!(),
     }
-}
-
-// Runs a job that takes no memory over records of multistream packets, which were fed nothing yet.
-fn run_over<F, J, S, O>(
-    alloc: Global,
-    limit: u64,
-    records: F,
-    job: J,
-    source: &mut S,
-    out: &mut O,
-) -> Ending
-where
-    F: RecordForm<Record = StreamsItem, Cut = Cut> + Drop,
-    J: RecordJob<StreamsItem, Cut, Refusal = StreamRefusal> + Drop,
-    S: Source,
-    O: Sink,
-    requires some { 1 ≤ limit }
-    requires most { limit ≤ max_input }
-    requires stands { F.stands records [] [] }
-    requires place { F.place ≡ place_of }
-    requires form_spared { (layout : F.Layout) → F.lacks layout → ⊥ }
-    requires start { J.stands job (J.meaning job).start }
-    requires spared { J.lacks job → ⊥ }
-    ensures { (m : Meaning (Shown StreamsItem) J.Kept Cut StreamRefusal) → J.meaning job ≡ m
-        → MeaningEnds m (F.settles (F.layout records)) (F.ends (F.layout records)) limit
-        (seen_as (S.left source.old) (S.faults source.old) (O.contents out.old) (O.faults out.old) (O.refusals out.old))
-        (seen_as (S.left source.new) (S.faults source.new) (O.contents out.new) (O.faults out.new) (O.refusals out.new))
-        (source.new ≡ source.old) result }
-{
-    run_made(alloc, limit, records, Ok(job), source, out)
 }

@@ -1,5 +1,5 @@
 use Rattle.std.proofs.Common.{◌≡◌, ◌+◌, ◌<◌, ◌^◌, drop}
-use Rattle.pack_jobs.specs.Refusal.{told}
+use Rattle.job_ends.specs.Refusal.{told}
 use Rattle.net_jobs.specs.Tell.{missing_in}
 use Rattle.net_jobs.proofs.events.add_missing.Given as goal
 

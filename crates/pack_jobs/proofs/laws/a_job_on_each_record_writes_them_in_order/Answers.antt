@@ -1,4 +1,4 @@
-use Rattle.pack_jobs.proofs.EachLemmas.{each_written, each_refused, each_cut}
+use Rattle.job_ends.proofs.EachLemmas.{each_written, each_refused, each_cut}
 use Rattle.pack_jobs.proofs.laws.a_job_on_each_record_writes_them_in_order.Goals as goal
 
 pub returns-clause-written : goal.returns-clause-written

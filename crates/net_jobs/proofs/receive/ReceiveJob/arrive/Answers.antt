@@ -3,7 +3,7 @@ use Rattle.std.specs.Option.{unwrap_or}
 use Rattle.rtp_ends.specs.declared.event.Event.{Event}
 use Rattle.rtp_ends.specs.Receives.{HasArrived}
 use Rattle.rtp_packet.specs.RtpRead.{rtp_value}
-use Rattle.pack_jobs.specs.Refusal.{told}
+use Rattle.job_ends.specs.Refusal.{told}
 use Rattle.net_jobs.specs.Arrive.{stream_of, heard_of}
 use Rattle.net_jobs.specs.Tell.{missing_in}
 use Rattle.net_jobs.proofs.ReceiveLemmas.{arrived}

@@ -2,7 +2,7 @@ use Rattle.std.proofs.Common.{List, ◌+◌, ◌∙◌, ap, subst, refl}
 use Rattle.rtp_ends.specs.declared.event.Event.{Event}
 use Rattle.rtp_ends.specs.Report.{arrival_report, certain_events}
 use Rattle.rtp_ends.specs.Receives.{GivesOut}
-use Rattle.pack_jobs.specs.Refusal.{told}
+use Rattle.job_ends.specs.Refusal.{told}
 use Rattle.net_jobs.specs.Tell.{missing_in}
 use Rattle.net_jobs.proofs.ReceiveLemmas.{closed}
 use Rattle.net_jobs.proofs.receive.ReceiveJob.close.Goals as goal

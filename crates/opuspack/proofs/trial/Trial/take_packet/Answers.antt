@@ -1,7 +1,7 @@
 use Rattle.std.proofs.Common.{◌≡◌, ℕ, ◌+◌, ◌++◌, List, ap, sym, subst, ◌∙◌, sum, OnOk, OnErr, arith}
 use Rattle.std.specs.Io.KnownBytes.{Appends}
 use Rattle.job_loop.specs.Telling.{Front}
-use Rattle.pack_jobs.specs.Refusal.{told}
+use Rattle.job_ends.specs.Refusal.{told}
 use Rattle.rec_store.specs.DemoStore.{demo_record}
 use Rattle.opus_packet.specs.Canonical.{canonical}
 use Rattle.opus_writer.specs.Forms.{canonical_header}
