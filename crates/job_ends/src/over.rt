@@ -1,5 +1,5 @@
 //! A run of a job over records of a form, where both are made before.
-ghost use Rattle.std.specs.Prelude.{◌≡◌, ◌≤◌, [], IfOk};
+ghost use Rattle.std.specs.Prelude.{◌≡◌, ◌≤◌, ℕ, [], IfOk};
 ghost use Rattle.opus_io.specs.Reader.{max_input};
 ghost use Rattle.job_loop.specs.Shown.{Shown};
 ghost use Rattle.job_loop.specs.Meaning.{Meaning};
@@ -37,7 +37,8 @@ where
     // Want of memory comes only where nothing was read, or the sink refused to grow.
     ensures { (m : Meaning (Shown F.Record) J.Kept F.Cut R) → IfOk made (λ j. J.meaning j ≡ m)
         → (layout : F.Layout) → IfOk records (λ f. F.layout f ≡ layout) → F.settles layout [] []
-        → MeaningEnds R.tells F.place m (F.settles layout) (F.ends layout) limit
+        → (place : Shown F.Record → ℕ) → F.place ≡ place
+        → MeaningEnds R.tells place m (F.settles layout) (F.ends layout) limit
         (seen_as (S.left source.old) (S.faults source.old) (O.contents out.old) (O.faults out.old) (O.refusals out.old))
         (seen_as (S.left source.new) (S.faults source.new) (O.contents out.new) (O.faults out.new) (O.refusals out.new))
         (source.new ≡ source.old) result }

@@ -25,43 +25,8 @@ use Rattle.pack_records.specs.Holds.{Reads, record_of, HoldsPacket}
 use Rattle.pack_jobs.specs.Norm.{is_long}
 use Rattle.pack_jobs.specs.Written.{payload_of}
 use Rattle.pack_jobs.specs.SameRecords.{IsSameFound, IsSameRecord}
+use Rattle.pack_jobs.proofs.KeptBytes.{kept_of, kept_again, kept_small, kept_are}
 use Rattle.pack_jobs.proofs.FormBytes.{form-are}
-
--- what is kept of padding bytes
-
-abbrev kept_of : Padding → List ℕ → List ℕ
-kept_of padding tail = kept_bytes (tail_kept padding tail)
-
-again_by : (b : Bool) (tail : List ℕ) → nat_le (length tail) max_tail ≡ b
-    → kept_of Keep (kept_bytes (if b then kept tail else counted (length tail)))
-    ≡ kept_bytes (if b then kept tail else counted (length tail))
-again_by true tail e = ap (λ b. kept_bytes (if b then kept tail else counted (length tail))) e
-again_by false tail e = refl
-
-kept_again : (padding : Padding) (tail : List ℕ) → kept_of padding (kept_of padding tail) ≡ kept_of padding tail
-kept_again Drop [] = refl
-kept_again Drop (x ∷ xs) = refl
-kept_again Keep tail = again_by (nat_le (length tail) max_tail) tail refl
-
-small_by : (b : Bool) (tail : List ℕ) → nat_le (length tail) max_tail ≡ b
-    → length (kept_bytes (if b then kept tail else counted (length tail))) ≤ max_tail
-small_by true tail e = leb-true (length tail) max_tail e
-small_by false tail e = omega arith
-
-kept_small : (padding : Padding) (tail : List ℕ) → length (kept_of padding tail) ≤ max_tail
-kept_small Drop [] = omega arith
-kept_small Drop (x ∷ xs) = omega arith
-kept_small Keep tail = small_by (nat_le (length tail) max_tail) tail refl
-
-are_by : (b : Bool) (tail : List ℕ) → AreBytes tail
-    → AreBytes (kept_bytes (if b then kept tail else counted (length tail)))
-are_by true tail are = are
-are_by false tail are = tt
-
-kept_are : (padding : Padding) (tail : List ℕ) → AreBytes tail → AreBytes (kept_of padding tail)
-kept_are Drop [] are = tt
-kept_are Drop (x ∷ xs) are = tt
-kept_are Keep tail are = are_by (nat_le (length tail) max_tail) tail are
 
 -- bytes that are read again as they stand
 

@@ -1,8 +1,6 @@
 pub mod DecimalLemmas
 pub mod FormSizes
-pub mod RunLemmas
 pub mod RecordLemmas
-pub mod EachLemmas
 pub mod PieceLemmas
 pub mod PacketLineLemmas
 pub mod PadLemmas
@@ -16,6 +14,8 @@ pub mod NormLemmas
 pub mod CheckLemmas
 pub mod SameLemmas
 pub mod FormBytes
+pub mod KeptBytes
+pub mod StoreBytes
 pub mod AgainLemmas
 pub mod InputsAgain
 pub mod StoresAgain

@@ -8,15 +8,16 @@ use Rattle.pack_records.specs.declared.cut.Cut.{Cut}
 use Rattle.pack_records.specs.declared.item.Found.{Found}
 use Rattle.pack_records.specs.declared.item.Found.TheVariants.{Packet, Lost, Bad}
 use Rattle.pack_records.specs.declared.item.Item.{Item}
+use Rattle.pack_jobs.specs.declared.refusal.Why.{Why}
 use Rattle.pack_jobs.specs.declared.refusal.Why.TheVariants.{StoreCut}
-use Rattle.pack_jobs.specs.Refusal.{Refusal}
+use Rattle.pack_jobs.specs.Refusal.{Refusal, cut_refusal}
 use Rattle.job_ends.specs.Refusal.{told, refusal_of}
 use Rattle.pack_jobs.specs.Written.{IsGood, AreGood, FirstBad}
 use Rattle.job_ends.specs.Each.{IsUncut, Made, IsWritten, AreWritten, RefusesWith, texts_from}
 use Rattle.pack_jobs.specs.Show.{show_found, show, record_lines, shown_from}
 use Rattle.job_ends.proofs.EachLemmas.{each_written, each_refused, each_cut}
 
-abbrev made : ℕ → Shown Item → Made
+abbrev made : ℕ → Shown Item → Made Why
 made number r = show_found (told number) r r.item.found
 
 good_is : (number : ℕ) (r : Shown Item) (found : Found) → IsGood found → IsWritten (show_found number r found)
@@ -45,7 +46,7 @@ texts_are number (r ∷ rs) = ap (λ l. record_lines (told number) r ++ l) (text
 pub show_written : (rs : List (Shown Item)) (end : InputEnd Cut) (text : List ℕ)
     → (outcome show rs end ≡ going text tt) ↔ (AreGood rs × IsUncut end × (text ≡ shown_from 0 rs))
 show_written rs end text =
-    let each = each_written made rs end text in
+    let each = each_written cut_refusal made rs end text in
     let same = texts_are 0 rs in (
       λ is. (let d = each.0 is in (written_are 0 rs d.0, d.1, d.2 ∙ same)),
       λ d. each.1 (good_are 0 rs d.0, d.1, d.2 ∙ sym same),
@@ -54,7 +55,7 @@ show_written rs end text =
 pub show_refused : (rs : List (Shown Item)) (end : InputEnd Cut) (f : Refusal) (at : FirstBad rs f)
     → outcome show rs end ≡ broke (shown_from 0 at.before) f
 show_refused rs end f at =
-    each_refused made rs end f (record {
+    each_refused cut_refusal made rs end f (record {
       before = at.before;
       first = at.first;
       after = at.after;
@@ -68,5 +69,5 @@ show_refused rs end f at =
 pub show_cut : (rs : List (Shown Item)) (c : Cut) → AreGood rs
     → outcome show rs (ends.Cut c) ≡ broke (shown_from 0 rs) (refusal_of (told (length rs)) c.place StoreCut)
 show_cut rs c good =
-    each_cut made rs c (good_are 0 rs good)
+    each_cut cut_refusal made rs c (good_are 0 rs good)
     ∙ ap (λ l. broke l (refusal_of (told (length rs)) c.place StoreCut)) (texts_are 0 rs)

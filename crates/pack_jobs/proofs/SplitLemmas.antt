@@ -20,8 +20,9 @@ use Rattle.pack_records.specs.declared.cut.Cut.{Cut}
 use Rattle.pack_records.specs.declared.item.Found.{Found}
 use Rattle.pack_records.specs.declared.item.Found.TheVariants.{Packet, Lost, Bad}
 use Rattle.pack_records.specs.declared.item.Item.{Item}
+use Rattle.pack_jobs.specs.declared.refusal.Why.{Why}
 use Rattle.pack_jobs.specs.declared.refusal.Why.TheVariants.{StoreCut}
-use Rattle.pack_jobs.specs.Refusal.{Refusal}
+use Rattle.pack_jobs.specs.Refusal.{Refusal, cut_refusal}
 use Rattle.job_ends.specs.Refusal.{told, refusal_of}
 use Rattle.pack_jobs.specs.Written.{IsGood, AreGood, FirstBad}
 use Rattle.job_ends.specs.Each.{IsUncut, Made, IsWritten, AreWritten, RefusesWith, texts_from}
@@ -31,7 +32,7 @@ use Rattle.pack_jobs.proofs.PieceLemmas.{counts_by}
 
 -- ---- records
 
-abbrev made : Form → ℕ → ℕ → Shown Item → Made
+abbrev made : Form → ℕ → ℕ → Shown Item → Made Why
 made form most number r = split_found form most r r.item.found
 
 good_is : (form : Form) (most : ℕ) (r : Shown Item) (found : Found) → IsGood found → IsWritten (split_found form most r found)
@@ -64,7 +65,7 @@ pub split_written : (form : Form) (most : ℕ) (rs : List (Shown Item)) (end : I
     → (outcome (split form most) rs end ≡ going text tt)
     ↔ (AreGood rs × IsUncut end × (text ≡ flat_map (split_record form most) rs))
 split_written form most rs end text =
-    let each = each_written (made form most) rs end text in
+    let each = each_written cut_refusal (made form most) rs end text in
     let same = texts_are form most 0 rs in (
       λ is. (let d = each.0 is in (written_are form most 0 rs d.0, d.1, d.2 ∙ same)),
       λ d. each.1 (good_are form most 0 rs d.0, d.1, d.2 ∙ sym same),
@@ -74,7 +75,7 @@ pub split_refused : (form : Form) (most : ℕ) (rs : List (Shown Item)) (end : I
     (at : FirstBad rs f)
     → outcome (split form most) rs end ≡ broke (flat_map (split_record form most) at.before) f
 split_refused form most rs end f at =
-    each_refused (made form most) rs end f (record {
+    each_refused cut_refusal (made form most) rs end f (record {
       before = at.before;
       first = at.first;
       after = at.after;
@@ -89,7 +90,7 @@ pub split_cut : (form : Form) (most : ℕ) (rs : List (Shown Item)) (c : Cut) �
     → outcome (split form most) rs (ends.Cut c)
     ≡ broke (flat_map (split_record form most) rs) (refusal_of (told (length rs)) c.place StoreCut)
 split_cut form most rs c good =
-    each_cut (made form most) rs c (good_are form most 0 rs good)
+    each_cut cut_refusal (made form most) rs c (good_are form most 0 rs good)
     ∙ ap (λ l. broke l (refusal_of (told (length rs)) c.place StoreCut)) (texts_are form most 0 rs)
 
 -- ---- counts

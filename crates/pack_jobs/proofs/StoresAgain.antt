@@ -24,18 +24,11 @@ use Rattle.pack_jobs.specs.Written.{IsTaken, AreTaken, payload_of, normal_record
 use Rattle.pack_jobs.specs.SameRecords.{IsSameRecord, AgreeOneByOne}
 use Rattle.pack_jobs.specs.PackEnds.{ends_in}
 use Rattle.pack_jobs.specs.Again.{IsReadAgain}
+use Rattle.pack_jobs.proofs.StoreBytes.{record-are}
 use Rattle.pack_jobs.proofs.FormSizes.{form_sizes}
 use Rattle.pack_jobs.proofs.NormLemmas.{norm_taken}
 use Rattle.pack_jobs.proofs.AgainLemmas.{packet_again, record_again, holds_again, taken_again, same_again, payload_again}
 use Rattle.pack_jobs.proofs.InputsAgain.{not_bad, read_again, raw_again, self_again}
-
-number-are : (n : ℕ) → AreBytes (to_be_bytes w32 n)
-number-are n = (omega arith, (omega arith, (omega arith, (omega arith, tt))))
-
-record-are : (range : ℕ) (payload : List ℕ) → AreBytes payload → AreBytes (demo_record range payload)
-record-are range payload are =
-    AreBytes-append (demo_head (length payload) range) payload
-    (AreBytes-append (to_be_bytes w32 (length payload)) (to_be_bytes w32 range) (number-are (length payload)) (number-are range)) are
 
 -- the record of a store that norm writes
 abbrev stored : Shown Item → StoreRecord

@@ -1,14 +1,12 @@
 pub mod Refusal
 pub mod Records
 pub mod Norm
-pub mod NormStands
 pub mod Check
 pub mod CheckStands
 pub mod Written
 pub mod Each
 pub mod PacketLines
 pub mod Show
-pub mod ShowStands
 pub mod Pad
 pub mod PadStands
 pub mod Split

@@ -4,7 +4,6 @@ use Rattle.opus_io.specs.Outside.{Outside}
 use Rattle.job_loop.specs.Shown.{Shown}
 use Rattle.job_loop.specs.Meaning.{Meaning}
 use Rattle.opus_feed.specs.declared.padding.Padding.{Padding}
-use Rattle.opus_feed.specs.declared.padding.Padding.TheVariants.{Drop}
 use Rattle.opus_words.specs.declared.form.Form.{Form}
 use Rattle.opus_words.specs.declared.form.Form.TheVariants.{Raw, Demo, SelfDelimited}
 use Rattle.opus_words.specs.declared.kind.JobKind.{JobKind}
@@ -12,6 +11,8 @@ use Rattle.opus_words.specs.declared.kind.JobKind.TheVariants.{Norm, Check, Show
 use Rattle.opus_words.specs.declared.job.Job.{Job}
 use Rattle.opus_words.specs.declared.ending.Ending.{Ending}
 use Rattle.job_ends.specs.Ends as ends
+use Rattle.job_ends.specs.Ends.{RunOver}
+use Rattle.job_ends.specs.Choices.{form_in, padding_in}
 use Rattle.pack_records.specs.declared.cut.Cut.{Cut}
 use Rattle.pack_records.specs.declared.item.Item.{Item}
 use Rattle.pack_records.specs.Raw.{RawSettles, RawEnds}
@@ -41,13 +42,6 @@ pub record IsPackJob (job : Job) : Type 0 where
   pub form : IsSome job.form
   pub streams : IfSome job.streams (λ n. n ≡ 1)
 
--- the form of the input, and what becomes of padding bytes: they are dropped where the job takes no such option
-abbrev pub form_in : Job → Form
-form_in job = unwrap_or job.form Raw
-
-abbrev pub padding_in : Job → Padding
-padding_in job = unwrap_or job.padding Drop
-
 -- the frames of a piece: one at least, also where the job takes no such option
 abbrev pub most_in : Job → ℕ
 most_in job = max 1 (unwrap_or job.frames 1)
@@ -61,13 +55,11 @@ abbrev pub place_of : Shown Item → ℕ
 place_of r = r.item.place
 
 -- how a run of a job over packets ended
-abbrev pub MeaningEnds : {K : Type 0} → Meaning (Shown Item) K Cut Refusal → (List ℕ → List (Shown Item) → Type 0)
-    → (List ℕ → List (Shown Item) → Option Cut → Type 0) → ℕ → Outside → Outside → Type 0 → Ending → Type 0
+abbrev pub MeaningEnds : {K : Type 0} → Meaning (Shown Item) K Cut Refusal → RunOver (Shown Item) Cut
 MeaningEnds m = ends.MeaningEnds Tells place_of m
 
 -- what the job of a kind means over records of its form: one line a job
-abbrev pub KindEnds : JobKind → Job → (List ℕ → List (Shown Item) → Type 0)
-    → (List ℕ → List (Shown Item) → Option Cut → Type 0) → ℕ → Outside → Outside → Type 0 → Ending → Type 0
+abbrev pub KindEnds : JobKind → Job → RunOver (Shown Item) Cut
 KindEnds Norm job = MeaningEnds (norm (form_in job) (padding_in job))
 KindEnds Check job = MeaningEnds (check (form_in job))
 KindEnds Show job = MeaningEnds show
@@ -77,8 +69,7 @@ KindEnds Pad job = MeaningEnds (pad (form_in job) (size_in job))
 KindEnds kind job = λ Settles Ends limit before after Untouched result. ⊥
 
 -- the job ended as its meaning has it, where Settles and Ends say which records its input has
-abbrev pub JobEnds : Job → (List ℕ → List (Shown Item) → Type 0)
-    → (List ℕ → List (Shown Item) → Option Cut → Type 0) → ℕ → Outside → Outside → Type 0 → Ending → Type 0
+abbrev pub JobEnds : Job → RunOver (Shown Item) Cut
 JobEnds job = KindEnds job.kind job
 
 -- the records that bytes of a form settle, and those of a whole input: one line a form

@@ -1,5 +1,5 @@
 -- The job pad: each packet in its padded form of a size; ranges and lost records stay.
-use Rattle.std.specs.Prelude.{ℕ, ◌+◌, nat_lt, nat_le, if◌then◌else◌, List, [], length, Option, Some, None, Result, Ok, Err}
+use Rattle.std.specs.Prelude.{ℕ, nat_lt, nat_le, if◌then◌else◌, List, [], length, Option, Some, None, Result, Ok, Err}
 use Rattle.job_loop.specs.Shown.{Shown}
 use Rattle.job_loop.specs.Meaning.{Meaning}
 use Rattle.opus_flen.specs.PaddingLength.{padding_limit}
@@ -13,11 +13,10 @@ use Rattle.pack_records.specs.declared.item.Found.TheVariants.{Packet, Lost, Bad
 use Rattle.pack_records.specs.declared.item.Item.{Item}
 use Rattle.pack_records.specs.Lent.{lent_value}
 use Rattle.pack_jobs.specs.declared.refusal.Why.{Why}
-use Rattle.pack_jobs.specs.declared.refusal.Why.TheVariants.{Fault, TooSmall, PadLimit}
+use Rattle.pack_jobs.specs.declared.refusal.Why.TheVariants.{TooSmall, PadLimit}
 use Rattle.pack_jobs.specs.Refusal.{Refusal}
-use Rattle.job_ends.specs.Refusal.{told}
 use Rattle.pack_jobs.specs.Records.{record_bytes}
-use Rattle.pack_jobs.specs.Each.{each}
+use Rattle.pack_jobs.specs.Each.{bad_made, each}
 use Rattle.job_ends.specs.Each.{Made, writes, refuses}
 
 -- the padded form of a value; there is none below the canonical size, and none with 2^24 bytes of padding or more

@@ -9,12 +9,12 @@ use Rattle.pack_records.specs.declared.item.Found.{Found}
 use Rattle.pack_records.specs.declared.item.Found.TheVariants.{Packet, Lost, Bad}
 use Rattle.pack_records.specs.declared.item.Item.{Item}
 use Rattle.pack_records.specs.Lent.{lent_value}
-use Rattle.pack_jobs.specs.declared.refusal.Why.TheVariants.{Fault}
+use Rattle.pack_jobs.specs.declared.refusal.Why.{Why}
 use Rattle.pack_jobs.specs.Refusal.{Refusal}
 use Rattle.job_ends.specs.Refusal.{told}
 use Rattle.pack_jobs.specs.PacketLines.{packet_lines}
-use Rattle.pack_jobs.specs.Each.{each}
-use Rattle.job_ends.specs.Each.{Made, writes, refuses, text_of}
+use Rattle.pack_jobs.specs.Each.{bad_made, each}
+use Rattle.job_ends.specs.Each.{Made, writes, text_of}
 
 -- `K: lost`
 abbrev pub lost_line : ℕ → List ℕ

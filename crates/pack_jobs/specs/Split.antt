@@ -1,5 +1,5 @@
 -- The job split: each packet in pieces of so many frames; lost records stay.
-use Rattle.std.specs.Prelude.{◌≡◌, ℕ, ◌+◌, ◌≤◌, ◌/◌, ◌%◌, ◌==◌, if◌then◌else◌, List, [], ◌∷◌, ◌++◌, length, replicate, Option, Some, None}
+use Rattle.std.specs.Prelude.{◌≡◌, ℕ, ◌≤◌, ◌/◌, ◌%◌, ◌==◌, if◌then◌else◌, List, [], ◌∷◌, ◌++◌, length, replicate, Option, Some, None}
 use Rattle.job_loop.specs.Shown.{Shown}
 use Rattle.job_loop.specs.Meaning.{Meaning}
 use Rattle.opus_packet.specs.Value.{PacketValue}
@@ -10,12 +10,11 @@ use Rattle.pack_records.specs.declared.item.Found.{Found}
 use Rattle.pack_records.specs.declared.item.Found.TheVariants.{Packet, Lost, Bad}
 use Rattle.pack_records.specs.declared.item.Item.{Item}
 use Rattle.pack_records.specs.Lent.{lent_value}
-use Rattle.pack_jobs.specs.declared.refusal.Why.TheVariants.{Fault}
+use Rattle.pack_jobs.specs.declared.refusal.Why.{Why}
 use Rattle.pack_jobs.specs.Refusal.{Refusal}
-use Rattle.job_ends.specs.Refusal.{told}
 use Rattle.pack_jobs.specs.Records.{record_bytes, canonical_record}
-use Rattle.pack_jobs.specs.Each.{each}
-use Rattle.job_ends.specs.Each.{Made, writes, refuses, text_of}
+use Rattle.pack_jobs.specs.Each.{bad_made, each}
+use Rattle.job_ends.specs.Each.{Made, writes, text_of}
 
 -- how many frames the pieces of so many frames have: `most` each, and the last one what is left
 abbrev pub piece_counts : ℕ → ℕ → List ℕ

@@ -2,12 +2,9 @@
 use Rattle.std.specs.Prelude.{◌≡◌, ℕ, ◌+◌, false, true, List, [], ◌∷◌, ◌++◌, length}
 use Rattle.std.specs.List.{AllByRecursion}
 use Rattle.job_loop.specs.Shown.{Shown}
-use Rattle.job_loop.specs.declared.input_end.InputEnd.{InputEnd}
-use Rattle.job_loop.specs.declared.input_end.InputEnd.TheVariants as ends
 use Rattle.opus_packet.specs.declared.fault.Fault.{Fault}
 use Rattle.opus_feed.specs.declared.padding.Padding.{Padding}
 use Rattle.opus_words.specs.declared.form.Form.{Form}
-use Rattle.pack_records.specs.declared.cut.Cut.{Cut}
 use Rattle.pack_records.specs.declared.item.Found.{Found}
 use Rattle.pack_records.specs.declared.item.Found.TheVariants.{Packet, Lost, Bad}
 use Rattle.pack_records.specs.declared.item.Item.{Item}
@@ -77,9 +74,3 @@ pub record FirstBad (rs : List (Shown Item)) (refusal : Refusal) : Type 0 where
 abbrev pub lines_from : ℕ → List (Shown Item) → List ℕ
 lines_from number [] = []
 lines_from number (r ∷ rs) = check_line (told number) (found_text r.item.found) ++ lines_from (number + 1) rs
-
--- the end isn't within a record
-abbrev pub IsUncut : InputEnd Cut → Type 0
-IsUncut ends.Closed = Unit {0}
-IsUncut (ends.Cut cut) = ⊥
-IsUncut ends.Past = Unit {0}

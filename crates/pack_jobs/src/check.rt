@@ -11,6 +11,7 @@ ghost use Rattle.pack_jobs.specs.declared.refusal.Why.TheVariants.{StoreCut};
 use crate::line::Line;
 use crate::refusal::{Refusal, Why, refusal_at};
 use crate::text::fault_text;
+use job_ends::CutReason;
 use job_loop::{InputEnd, JobStop, Lent, RecordJob};
 use opus_io::{Sink, SinkStop, write_all};
 use opus_packet::Fault;
@@ -52,17 +53,6 @@ impl Check {
         let first = self.first.unwrap_or(refusal);
         self.first = Some(first);
         first
-    }
-
-    // The first refusal, or the one for a cut of the store at this place.
-    fn cut_at(&self, place: u64) -> Refusal
-        ensures { result ≡ first_refusal self.now.first (refusal_of self.now.count place StoreCut) }
-    {
-        self.first.unwrap_or(Refusal {
-            index: self.count,
-            place,
-            why: Why::StoreCut,
-        })
     }
 }
 
@@ -109,7 +99,10 @@ impl RecordJob<Item, Cut> for Check {
                 Some(first) => Err(JobStop::Refused(first)),
                 None => Ok(()),
             },
-            InputEnd::Cut(cut) => Err(JobStop::Refused(self.cut_at(cut.place))),
+            InputEnd::Cut(cut) => {
+                let cut = Why::cut(self.count, cut);
+                Err(JobStop::Refused(self.first.unwrap_or(cut)))
+            }
             InputEnd::Past => Ok(()),
         }
     }

@@ -15,6 +15,7 @@ ghost use Rattle.opus_words.specs.declared.form.Form.TheVariants.{SelfDelimited}
 ghost use Rattle.pack_records.specs.declared.cut.Cut.{Cut};
 ghost use Rattle.pack_records.specs.declared.item.Item.{Item};
 ghost use Rattle.pack_records.specs.Fits.{form_of};
+ghost use Rattle.pack_jobs.specs.declared.refusal.Why.{Why};
 ghost use Rattle.pack_jobs.specs.declared.refusal.Why.TheVariants.{StoreCut};
 ghost use Rattle.pack_jobs.specs.Refusal.{Refusal};
 ghost use Rattle.job_ends.specs.Refusal.{told, refusal_of};
@@ -74,12 +75,12 @@ pub fn check_names_the_first_fault()
 /// A job that makes something of each record by itself has written what it makes of all of them, exactly where it refuses
 /// none and no cut follows. Refused, it has written what it makes of the records before the refused one, or of all.
 pub fn a_job_on_each_record_writes_them_in_order()
-    ensures written { (made : ℕ → Shown Item → Made) (rs : List (Shown Item)) (end : InputEnd Cut)
+    ensures written { (made : ℕ → Shown Item → Made Why) (rs : List (Shown Item)) (end : InputEnd Cut)
         (text : List ℕ) → (outcome (each made) rs end ≡ going text tt)
         ↔ (AreWritten made 0 rs × IsUncut end × (text ≡ texts_from made 0 rs)) }
-    ensures refused { (made : ℕ → Shown Item → Made) (rs : List (Shown Item)) (end : InputEnd Cut) (f : Refusal)
+    ensures refused { (made : ℕ → Shown Item → Made Why) (rs : List (Shown Item)) (end : InputEnd Cut) (f : Refusal)
         (at : FirstRefusedBy made rs f) → outcome (each made) rs end ≡ broke (texts_from made 0 at.before) f }
-    ensures cut { (made : ℕ → Shown Item → Made) (rs : List (Shown Item)) (c : Cut) → AreWritten made 0 rs
+    ensures cut { (made : ℕ → Shown Item → Made Why) (rs : List (Shown Item)) (c : Cut) → AreWritten made 0 rs
         → outcome (each made) rs (ends.Cut c)
         ≡ broke (texts_from made 0 rs) (refusal_of (told (length rs)) c.place StoreCut) }
 {}

@@ -21,12 +21,8 @@ mod text;
 
 pub use check::Check;
 pub use merge::Merge;
-pub use norm::Norm;
 pub use pack::pack_job;
 pub use packet_lines::write_packet_lines;
-pub use pad::Pad;
 pub use record::{write_packet, write_record};
 pub use refusal::{Refusal, Why, refusal_at};
-pub use show::Show;
-pub use split::Split;
 pub use text::{decimal_text, fault_text};

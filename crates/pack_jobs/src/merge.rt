@@ -3,13 +3,13 @@ ghost use Rattle.std.specs.Prelude.{◌≡◌, ◌++◌, [], IfOk, OnOk, OnErr};
 ghost use Rattle.std.specs.Io.KnownBytes.{Appends};
 ghost use Rattle.opus_io.specs.Sink.{SinkCause, Onward};
 ghost use Rattle.job_loop.specs.Telling.{Front};
-ghost use Rattle.job_ends.specs.Refusal.{refusal_of};
 ghost use Rattle.pack_records.specs.Lent.{lent_value};
 ghost use Rattle.pack_jobs.specs.Records.{record_bytes};
 ghost use Rattle.pack_jobs.specs.Merge.{merge, MergeKept, put_behind, lent_behind, with_packet, with_lent, no_packets, next_group, group_text, full_text};
 
 use crate::record::{write_packet, write_record};
 use crate::refusal::{Refusal, Why, refusal_at};
+use job_ends::CutReason;
 use job_loop::{InputEnd, JobStop, Lent, RecordJob};
 use opus_feed::Framing;
 use opus_io::{NoMemory, Sink, SinkStop};
@@ -154,17 +154,6 @@ impl Merge {
         self.close(out)?;
         write_record(self.form, range, &[], out)
     }
-
-    // The refusal for the next record or for the cut behind the last one.
-    fn refuse(&self, place: u64, why: Why) -> Refusal
-        ensures { result ≡ refusal_of self.now.count place why }
-    {
-        Refusal {
-            index: self.count,
-            place,
-            why,
-        }
-    }
 }
 
 impl RecordJob<Item, Cut> for Merge {
@@ -193,7 +182,7 @@ impl RecordJob<Item, Cut> for Merge {
         match record.found {
             Found::Packet { framing, .. } => {
                 if let Err(why) = self.put_lent(record.range, framing, item.bytes()) {
-                    return Err(JobStop::Refused(self.refuse(record.place, why)));
+                    return Err(JobStop::Refused(Refusal::new(self.count, record.place, why)));
                 }
                 self.close_full(out)?;
             }
@@ -213,9 +202,7 @@ impl RecordJob<Item, Cut> for Merge {
     ) -> Result<(), JobStop<Refusal>> {
         match end {
             InputEnd::Closed => self.close(out)?,
-            InputEnd::Cut(cut) => {
-                return Err(JobStop::Refused(self.refuse(cut.place, Why::StoreCut)));
-            }
+            InputEnd::Cut(cut) => return Err(JobStop::Refused(Why::cut(self.count, cut))),
             InputEnd::Past => {}
         }
         Ok(())

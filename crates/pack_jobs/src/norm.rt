@@ -1,11 +1,11 @@
 //! The job norm: each packet in its kept form.
-ghost use Rattle.std.specs.Prelude.{◌≡◌, ℕ};
-ghost use Rattle.pack_jobs.specs.Norm.{norm, is_long};
-ghost use Rattle.job_ends.specs.Refusal.{refusal_of};
+ghost use Rattle.std.specs.Prelude.{◌≡◌};
+ghost use Rattle.pack_jobs.specs.Norm.{is_long, norm_found};
 
 use crate::record::write_record;
 use crate::refusal::{Refusal, Why, refusal_at};
-use job_loop::{InputEnd, JobStop, Lent, RecordJob};
+use job_ends::Make;
+use job_loop::{JobStop, Lent};
 use opus_feed::Padding;
 use opus_io::Sink;
 use opus_packet::Shape;
@@ -18,28 +18,12 @@ const MOST_PAD: u32 = 65_794;
 
 /// Writes each packet in its kept form, in the form of the input. With `Padding::Drop` that is the canonical form.
 #[derive(Drop)]
-pub struct Norm {
-    form: Form,
-    padding: Padding,
-    // How many records were taken.
-    count: u64,
+pub(crate) struct Norm {
+    pub form: Form,
+    pub padding: Padding,
 }
 
 impl Norm {
-    ghost use Rattle.pack_jobs.specs.NormStands.{norm_job, NormStands};
-
-    /// The job over an input of this form, before its first record.
-    pub fn new(form: Form, padding: Padding) -> Norm
-        ensures job { norm_job result ≡ norm form padding }
-        ensures stands { NormStands result (norm form padding).start }
-    {
-        Norm {
-            form,
-            padding,
-            count: 0,
-        }
-    }
-
     fn is_long(&self, shape: Shape) -> bool
         ensures { result ≡ is_long self.now.padding shape }
     {
@@ -48,38 +32,17 @@ impl Norm {
             Padding::Keep => shape.pad > MOST_PAD,
         }
     }
-
-    // The refusal for the next record or for the cut behind the last one.
-    fn refuse(&self, place: u64, why: Why) -> Refusal
-        ensures { result ≡ refusal_of self.now.count place why }
-    {
-        Refusal {
-            index: self.count,
-            place,
-            why,
-        }
-    }
 }
 
-impl RecordJob<Item, Cut> for Norm {
-    ghost use Rattle.pack_jobs.specs.NormStands.{norm_job, NormStands};
+impl Make<Item, Cut> for Norm {
+    type Why = Why;
 
-    type Refusal = Refusal;
+    ghost made = { λ n number r. norm_found n.form n.padding r r.item.found };
 
-    ghost Kept = { ℕ };
-
-    ghost meaning = { norm_job };
-
-    ghost stands = { NormStands };
-
-    ghost lacks = { λ _. ⊥ };
-
-    fn opening(&self) -> &[u8] {
-        &[]
-    }
-
-    fn take<O: Sink>(
+    #[inline]
+    fn make<O: Sink>(
         &mut self,
+        number: u64,
         item: &Lent<'_, Item>,
         out: &mut O,
     ) -> Result<(), JobStop<Refusal>> {
@@ -87,23 +50,14 @@ impl RecordJob<Item, Cut> for Norm {
         match record.found {
             Found::Packet { shape, .. } => {
                 if self.is_long(shape) {
-                    return Err(JobStop::Refused(self.refuse(record.place, Why::PaddingLong)));
+                    let refusal = Refusal::new(number, record.place, Why::PaddingLong);
+                    return Err(JobStop::Refused(refusal));
                 }
                 write_record(self.form, record.range, item.bytes(), out)?;
             }
             Found::Lost => write_record(self.form, record.range, &[], out)?,
-            Found::Bad(fault) => {
-                return Err(JobStop::Refused(refusal_at(self.count, record, fault)));
-            }
+            Found::Bad(fault) => return Err(JobStop::Refused(refusal_at(number, record, fault))),
         }
-        self.count = self.count.saturating_add(1);
         Ok(())
-    }
-
-    fn finish<O: Sink>(&mut self, end: &InputEnd<Cut>, _: &mut O) -> Result<(), JobStop<Refusal>> {
-        match end {
-            InputEnd::Cut(cut) => Err(JobStop::Refused(self.refuse(cut.place, Why::StoreCut))),
-            _ => Ok(()),
-        }
     }
 }

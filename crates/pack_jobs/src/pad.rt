@@ -1,11 +1,11 @@
 //! The job pad: each packet in its padded form of a size.
-ghost use Rattle.std.specs.Prelude.{◌≡◌, ◌<◌, ◌≤◌, ◌^◌, ℕ, Ok, Err, IfOk, OnOk, length, vec_capacity};
-ghost use Rattle.pack_jobs.specs.Pad.{pad, padded_of};
-ghost use Rattle.job_ends.specs.Refusal.{refusal_of};
+ghost use Rattle.std.specs.Prelude.{◌≡◌, ◌<◌, ◌≤◌, ◌^◌, Ok, Err, IfOk, OnOk, length, vec_capacity};
+ghost use Rattle.pack_jobs.specs.Pad.{pad, pad_found, padded_of};
 
 use crate::record::write_record;
 use crate::refusal::{Refusal, Why, refusal_at};
-use job_loop::{InputEnd, JobStop, Lent, RecordJob};
+use job_ends::{Each, Make};
+use job_loop::{JobStop, Lent};
 use opus_io::{NoMemory, Sink};
 use opus_packet::Packet;
 use opus_words::Form;
@@ -15,12 +15,10 @@ use std::alloc::Global;
 
 /// Writes each packet in its padded form of so many bytes. Ranges and lost records stay.
 #[derive(Drop)]
-pub struct Pad {
+pub(crate) struct Pad {
     form: Form,
     // Bytes of each packet that is written.
     size: u32,
-    // How many records were taken.
-    count: u64,
     // The padded form that was made last.
     padded: Vec<u8>,
     ghost small: { size < 2 ^ 32 },
@@ -29,27 +27,23 @@ pub struct Pad {
 
 impl Pad {
     ghost use Rattle.std.specs.Prelude.{◌<◌, ◌≤◌, ◌^◌, vec_capacity};
-    ghost use Rattle.pack_jobs.specs.PadStands.{pad_job, PadStands};
+    ghost use Rattle.job_ends.specs.EachStands.{EachStands};
+    ghost use Rattle.pack_jobs.specs.PadStands.{pad_job};
 
     /// The job over an input of this form, before its first record: packets of `size` bytes. It takes all memory that it
     /// needs, `size` bytes.
-    pub fn new(alloc: Global, form: Form, size: u32) -> Result<Pad, NoMemory>
+    pub(crate) fn job(alloc: Global, form: Form, size: u32) -> Result<Each<Pad>, NoMemory>
         ensures job { IfOk result (λ p. pad_job p ≡ pad form size) }
-        ensures stands { IfOk result (λ p. PadStands p (pad form size).start) }
+        ensures stands { IfOk result (λ p. EachStands p 0) }
     {
-        Ok(Pad {
-            form,
-            size,
-            count: 0,
-            padded: Vec::with_capacity(alloc, size as usize)?,
-        })
+        let padded = Vec::with_capacity(alloc, size as usize)?;
+        Ok(Each::new(Pad { form, size, padded }))
     }
 
     // Makes the padded form of a packet, or tells why there is none of this size.
     fn fill(&mut self, packet: &Packet<'_>) -> Result<(), Why>
         ensures form { self.new.form ≡ self.old.form }
         ensures size { self.new.size ≡ self.old.size }
-        ensures count { self.new.count ≡ self.old.count }
         ensures ok { OnOk result (padded_of packet.now.value self.old.size ≡ Ok self.new.padded.items) }
         ensures small { OnOk result (length self.new.padded.items ≡ self.old.size) }
         ensures err { (why : Why) → result ≡ Err why → padded_of packet.now.value self.old.size ≡ Err why }
@@ -64,43 +58,22 @@ impl Pad {
     }
 
     // The padded form that was made last.
-    fn made(&self) -> &[u8]
+    fn padded(&self) -> &[u8]
         ensures { result.now ≡ self.now.padded.items }
     {
         &self.padded
     }
-
-    // The refusal for the next record or for the cut behind the last one.
-    fn refuse(&self, place: u64, why: Why) -> Refusal
-        ensures { result ≡ refusal_of self.now.count place why }
-    {
-        Refusal {
-            index: self.count,
-            place,
-            why,
-        }
-    }
 }
 
-impl RecordJob<Item, Cut> for Pad {
-    ghost use Rattle.pack_jobs.specs.PadStands.{pad_job, PadStands};
+impl Make<Item, Cut> for Pad {
+    type Why = Why;
 
-    type Refusal = Refusal;
+    ghost made = { λ p number r. pad_found p.form p.size r r.item.found };
 
-    ghost Kept = { ℕ };
-
-    ghost meaning = { pad_job };
-
-    ghost stands = { PadStands };
-
-    ghost lacks = { λ _. ⊥ };
-
-    fn opening(&self) -> &[u8] {
-        &[]
-    }
-
-    fn take<O: Sink>(
+    #[inline]
+    fn make<O: Sink>(
         &mut self,
+        number: u64,
         item: &Lent<'_, Item>,
         out: &mut O,
     ) -> Result<(), JobStop<Refusal>> {
@@ -109,26 +82,17 @@ impl RecordJob<Item, Cut> for Pad {
             Found::Packet { framing, .. } => {
                 if let Some(packet) = lent_packet(framing, item.bytes()) {
                     match self.fill(&packet) {
-                        Ok(()) => write_record(self.form, record.range, self.made(), out)?,
+                        Ok(()) => write_record(self.form, record.range, self.padded(), out)?,
                         Err(why) => {
-                            return Err(JobStop::Refused(self.refuse(record.place, why)));
+                            let refusal = Refusal::new(number, record.place, why);
+                            return Err(JobStop::Refused(refusal));
                         }
                     }
                 }
             }
             Found::Lost => write_record(self.form, record.range, &[], out)?,
-            Found::Bad(fault) => {
-                return Err(JobStop::Refused(refusal_at(self.count, record, fault)));
-            }
+            Found::Bad(fault) => return Err(JobStop::Refused(refusal_at(number, record, fault))),
         }
-        self.count = self.count.saturating_add(1);
         Ok(())
-    }
-
-    fn finish<O: Sink>(&mut self, end: &InputEnd<Cut>, _: &mut O) -> Result<(), JobStop<Refusal>> {
-        match end {
-            InputEnd::Cut(cut) => Err(JobStop::Refused(self.refuse(cut.place, Why::StoreCut))),
-            _ => Ok(()),
-        }
     }
 }

@@ -2,8 +2,9 @@
 ghost use Rattle.std.specs.Prelude.{◌≡◌};
 ghost use Rattle.pack_jobs.specs.Refusal.{refusal_at};
 
+use job_ends::CutReason;
 use opus_packet::Fault;
-use pack_records::Item;
+use pack_records::{Cut, Item};
 
 /// Why an input is refused.
 #[derive(Clone, Copy, Debug, PartialEq, Eq)]
@@ -24,24 +25,23 @@ pub enum Why {
     PadLimit,
 }
 
-/// A refused input. Its text is made at the end of the run alone.
-#[derive(Clone, Copy, Debug, PartialEq, Eq)]
-pub struct Refusal {
-    /// The record's number, from 0.
-    pub index: u64,
-    /// The place, in bytes from the input's beginning.
-    pub place: u64,
-    /// What is wrong there.
-    pub why: Why,
+/// A refused input of packets.
+pub type Refusal = job_ends::Refusal<Why>;
+
+impl CutReason<Cut> for Why {
+    ghost use Rattle.pack_jobs.specs.Refusal.{cut_refusal};
+
+    ghost cut_refusal = { cut_refusal };
+
+    fn cut(index: u64, cut: &Cut) -> Refusal {
+        Refusal::new(index, cut.place, Why::StoreCut)
+    }
 }
 
 /// The refusal for a record of this number that holds no packet, for this fault.
 pub fn refusal_at(index: u64, item: &Item, fault: Fault) -> Refusal
     ensures { result ≡ refusal_at index item.now fault }
 {
-    Refusal {
-        index,
-        place: item.start.saturating_add(fault.place),
-        why: Why::Fault(fault),
-    }
+    let place = item.start.saturating_add(fault.place);
+    Refusal::new(index, place, Why::Fault(fault))
 }

@@ -1,55 +1,31 @@
 //! The job show: the lines of each packet.
-ghost use Rattle.std.specs.Prelude.{◌≡◌, ℕ, OnOk, OnErr};
+ghost use Rattle.std.specs.Prelude.{◌≡◌, OnOk, OnErr};
 ghost use Rattle.std.specs.Io.KnownBytes.{Appends};
 ghost use Rattle.opus_io.specs.Sink.{SinkCause, Onward};
 ghost use Rattle.job_loop.specs.Telling.{Front};
-ghost use Rattle.pack_jobs.specs.Show.{show, lost_line};
+ghost use Rattle.pack_jobs.specs.Show.{show_found, lost_line};
 
 use crate::line::Line;
 use crate::packet_lines::write_packet_lines;
 use crate::refusal::{Refusal, Why, refusal_at};
-use job_loop::{InputEnd, JobStop, Lent, RecordJob};
+use job_ends::Make;
+use job_loop::{JobStop, Lent};
 use opus_io::{Sink, SinkStop, write_all};
 use pack_records::{Cut, Found, Item, lent_packet};
 
 /// Writes the lines of each packet, as it was spelled, and a line for each lost record.
 #[derive(Drop)]
-pub struct Show {
-    // How many records were taken.
-    count: u64,
-}
+pub(crate) struct Show;
 
-impl Show {
-    ghost use Rattle.pack_jobs.specs.ShowStands.{show_job, ShowStands};
+impl Make<Item, Cut> for Show {
+    type Why = Why;
 
-    /// The job over an input of any form, before its first record.
-    pub fn new() -> Show
-        ensures job { show_job result ≡ show }
-        ensures stands { ShowStands result show.start }
-    {
-        Show { count: 0 }
-    }
-}
+    ghost made = { λ s number r. show_found number r r.item.found };
 
-impl RecordJob<Item, Cut> for Show {
-    ghost use Rattle.pack_jobs.specs.ShowStands.{show_job, ShowStands};
-
-    type Refusal = Refusal;
-
-    ghost Kept = { ℕ };
-
-    ghost meaning = { show_job };
-
-    ghost stands = { ShowStands };
-
-    ghost lacks = { λ _. ⊥ };
-
-    fn opening(&self) -> &[u8] {
-        &[]
-    }
-
-    fn take<O: Sink>(
+    #[inline]
+    fn make<O: Sink>(
         &mut self,
+        number: u64,
         item: &Lent<'_, Item>,
         out: &mut O,
     ) -> Result<(), JobStop<Refusal>> {
@@ -61,27 +37,13 @@ impl RecordJob<Item, Cut> for Show {
                 size,
             } => {
                 if let Some(packet) = lent_packet(framing, item.bytes()) {
-                    write_packet_lines(self.count, 0, shape, size, &packet, out)?;
+                    write_packet_lines(number, 0, shape, size, &packet, out)?;
                 }
             }
-            Found::Lost => write_lost(self.count, out)?,
-            Found::Bad(fault) => {
-                return Err(JobStop::Refused(refusal_at(self.count, record, fault)));
-            }
+            Found::Lost => write_lost(number, out)?,
+            Found::Bad(fault) => return Err(JobStop::Refused(refusal_at(number, record, fault))),
         }
-        self.count = self.count.saturating_add(1);
         Ok(())
-    }
-
-    fn finish<O: Sink>(&mut self, end: &InputEnd<Cut>, _: &mut O) -> Result<(), JobStop<Refusal>> {
-        match end {
-            InputEnd::Cut(cut) => Err(JobStop::Refused(Refusal {
-                index: self.count,
-                place: cut.place,
-                why: Why::StoreCut,
-            })),
-            _ => Ok(()),
-        }
     }
 }
 

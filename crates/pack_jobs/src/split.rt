@@ -1,13 +1,14 @@
 //! The job split: each packet in pieces.
-ghost use Rattle.std.specs.Prelude.{◌≡◌, ◌≤◌, ℕ, IfOk, OnOk, OnErr, length};
+ghost use Rattle.std.specs.Prelude.{◌≡◌, ◌≤◌, IfOk, OnOk, OnErr};
 ghost use Rattle.std.specs.Io.KnownBytes.{Appends};
 ghost use Rattle.opus_io.specs.Sink.{SinkCause, Onward};
 ghost use Rattle.job_loop.specs.Telling.{Front};
-ghost use Rattle.pack_jobs.specs.Split.{split, pieces, piece_records, range_to};
+ghost use Rattle.pack_jobs.specs.Split.{split, split_found, pieces, piece_records, range_to};
 
 use crate::record::{write_packet, write_record};
 use crate::refusal::{Refusal, Why, refusal_at};
-use job_loop::{InputEnd, JobStop, Lent, RecordJob};
+use job_ends::{Each, Make};
+use job_loop::{JobStop, Lent};
 use opus_io::{NoMemory, Sink, SinkStop};
 use opus_packet::Packet;
 use opus_repack::Repacketizer;
@@ -18,33 +19,28 @@ use std::alloc::Global;
 /// Writes each packet in pieces of so many frames, the last one shorter where fewer are left. The last piece keeps the
 /// packet's range, and the others have 0.
 #[derive(Drop)]
-pub struct Split {
+pub(crate) struct Split {
     form: Form,
     // Frames of a piece.
     most: usize,
-    // How many records were taken.
-    count: u64,
     frames: Repacketizer,
     ghost some: { 1 ≤ most },
 }
 
 impl Split {
     ghost use Rattle.std.specs.Prelude.{◌≤◌};
-    ghost use Rattle.pack_jobs.specs.SplitStands.{split_job, SplitStands};
+    ghost use Rattle.job_ends.specs.EachStands.{EachStands};
+    ghost use Rattle.pack_jobs.specs.SplitStands.{split_job};
 
     /// The job over an input of this form, before its first record: pieces of `most` frames. It takes all memory that it
     /// needs.
-    pub fn new(alloc: Global, form: Form, most: usize) -> Result<Split, NoMemory>
+    pub(crate) fn job(alloc: Global, form: Form, most: usize) -> Result<Each<Split>, NoMemory>
         requires { 1 ≤ most }
         ensures job { IfOk result (λ s. split_job s ≡ split form most) }
-        ensures stands { IfOk result (λ s. SplitStands s (split form most).start) }
+        ensures stands { IfOk result (λ s. EachStands s 0) }
     {
-        Ok(Split {
-            form,
-            most,
-            count: 0,
-            frames: Repacketizer::new(alloc)?,
-        })
+        let frames = Repacketizer::new(alloc)?;
+        Ok(Each::new(Split { form, most, frames }))
     }
 
     // Writes the pieces of a packet.
@@ -57,7 +53,6 @@ impl Split {
     ) -> Result<(), SinkStop>
         ensures form { self.new.form ≡ self.old.form }
         ensures most { self.new.most ≡ self.old.most }
-        ensures count { self.new.count ≡ self.old.count }
         ensures ok { OnOk result (Appends (O.contents out.old) (O.contents out.new)
             (piece_records self.old.form range (pieces self.old.most packet.now.value))) }
         ensures front { OnErr result (Front (piece_records self.old.form range (pieces self.old.most packet.now.value))
@@ -80,25 +75,15 @@ impl Split {
     }
 }
 
-impl RecordJob<Item, Cut> for Split {
-    ghost use Rattle.pack_jobs.specs.SplitStands.{split_job, SplitStands};
+impl Make<Item, Cut> for Split {
+    type Why = Why;
 
-    type Refusal = Refusal;
+    ghost made = { λ s number r. split_found s.form s.most r r.item.found };
 
-    ghost Kept = { ℕ };
-
-    ghost meaning = { split_job };
-
-    ghost stands = { SplitStands };
-
-    ghost lacks = { λ _. ⊥ };
-
-    fn opening(&self) -> &[u8] {
-        &[]
-    }
-
-    fn take<O: Sink>(
+    #[inline]
+    fn make<O: Sink>(
         &mut self,
+        number: u64,
         item: &Lent<'_, Item>,
         out: &mut O,
     ) -> Result<(), JobStop<Refusal>> {
@@ -110,23 +95,9 @@ impl RecordJob<Item, Cut> for Split {
                 }
             }
             Found::Lost => write_record(self.form, record.range, &[], out)?,
-            Found::Bad(fault) => {
-                return Err(JobStop::Refused(refusal_at(self.count, record, fault)));
-            }
+            Found::Bad(fault) => return Err(JobStop::Refused(refusal_at(number, record, fault))),
         }
-        self.count = self.count.saturating_add(1);
         Ok(())
-    }
-
-    fn finish<O: Sink>(&mut self, end: &InputEnd<Cut>, _: &mut O) -> Result<(), JobStop<Refusal>> {
-        match end {
-            InputEnd::Cut(cut) => Err(JobStop::Refused(Refusal {
-                index: self.count,
-                place: cut.place,
-                why: Why::StoreCut,
-            })),
-            _ => Ok(()),
-        }
     }
 }
 

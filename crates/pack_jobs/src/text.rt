@@ -1,14 +1,13 @@
 //! Texts in fixed memory, made at the end of a run.
 ghost use Rattle.std.specs.Prelude.{◌≡◌, ◌+◌, ◌≤◌, ◌<◌, ◌^◌, ◌++◌, ◌∷◌, [], length, decimal};
 ghost use Rattle.arrayvec.specs.ArrayString.{array_string_len};
-ghost use Rattle.pack_jobs.specs.Refusal.{rule_name, fault_text, refusal_text, Tells};
+ghost use Rattle.pack_jobs.specs.Refusal.{rule_name, fault_text, refusal_text};
 
-use crate::refusal::{Refusal, Why};
+use crate::refusal::Why;
 use arrayvec::ArrayString;
 use itoa::Buffer;
-use job_ends::Told;
+use job_ends::{Reason, text_of};
 use opus_packet::{Fault, Rule};
-use opus_words::JobFault;
 
 /// The decimal digits of `n`.
 pub fn decimal_text(n: u64) -> ArrayString<20>
@@ -50,39 +49,18 @@ fn rule_text(rule: Rule) -> &'static str
     }
 }
 
-impl Told for Refusal {
-    ghost tells = { Tells };
+impl Reason for Why {
+    ghost words = { refusal_text };
 
-    #[cold]
-    #[inline(never)]
-    fn fault(self) -> JobFault {
-        JobFault {
-            index: self.index,
-            place: self.place,
-            text: refusal_text(self.why),
+    fn text(self) -> ArrayString<64> {
+        match self {
+            Why::Fault(fault) => fault_text(fault),
+            Why::PaddingLong => text_of("padding long"),
+            Why::StoreCut => text_of("store cut"),
+            Why::MixedKind => text_of("mixed kind"),
+            Why::TooLong => text_of("too long"),
+            Why::TooSmall => text_of("too small"),
+            Why::PadLimit => text_of("pad limit"),
         }
     }
-}
-
-fn refusal_text(why: Why) -> ArrayString<64>
-    ensures { result.bytes ≡ refusal_text why }
-{
-    match why {
-        Why::Fault(fault) => fault_text(fault),
-        Why::PaddingLong => text_of("padding long"),
-        Why::StoreCut => text_of("store cut"),
-        Why::MixedKind => text_of("mixed kind"),
-        Why::TooLong => text_of("too long"),
-        Why::TooSmall => text_of("too small"),
-        Why::PadLimit => text_of("pad limit"),
-    }
-}
-
-fn text_of(words: &str) -> ArrayString<64>
-    requires { length words.now ≤ 64 }
-    ensures { result.bytes ≡ words.now }
-{
-    let mut text = ArrayString::new();
-    text.push_str(words);
-    text
 }

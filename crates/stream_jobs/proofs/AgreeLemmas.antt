@@ -1,55 +1,37 @@
 -- What norm keeps of records of multistream packets: what they hold, and no more.
-use Rattle.std.proofs.Common.{◌≡◌, ◌↔◌, ℕ, ◌+◌, ◌*◌, ◌^◌, ◌<◌, ◌≤◌, Bool, true, false, nat_le, if◌then◌else◌, List, [], ◌∷◌, ◌++◌, length, drop, map, flat_map, Option, None, Some, inl, inr, refl, sym, ap, ◌∙◌, subst, append-nil, length-append, leb-true, nat_lt, arith}
+use Rattle.std.proofs.Common.{◌≡◌, ◌↔◌, ℕ, ◌+◌, ◌*◌, ◌^◌, ◌<◌, ◌≤◌, List, [], ◌∷◌, ◌++◌, length, drop, map, flat_map, Option, None, Some, refl, sym, ap, ◌∙◌, subst, append-nil, length-append, arith}
 use Rattle.std.proofs.lemmas.List.{length-map}
 use Rattle.std.specs.List.{AllByRecursion}
-use Rattle.std.proofs.lemmas.Bool.{leb-false, ltb-false}
 use Rattle.job_loop.specs.Shown.{Shown}
 use Rattle.job_loop.specs.Meaning.{going, outcome}
 use Rattle.job_loop.specs.declared.input_end.InputEnd.{InputEnd}
 use Rattle.opus_packet.specs.Value.{IsPacketValue}
 use Rattle.opus_packet.specs.Held.{HeldRead}
-use Rattle.opus_packet.specs.Tail.{kept, counted, kept_bytes, max_tail}
 use Rattle.opus_feed.specs.declared.framing.Framing.TheVariants.{Whole, SelfDelimited as Delimited}
 use Rattle.opus_feed.specs.declared.padding.Padding.{Padding}
-use Rattle.opus_feed.specs.declared.padding.Padding.TheVariants.{Drop, Keep}
-use Rattle.opus_feed.specs.Tails.{tail_kept}
 use Rattle.opus_multi.specs.Streams.{SpelledStream, StandFirst, AreStreams}
-use Rattle.opus_multi.specs.Parts.{dropped_of}
-use Rattle.opus_multi.specs.Forms.{IsKeptValue, kept_self_of, kept_multistream, bare}
+use Rattle.opus_multi.specs.Forms.{IsKeptValue, kept_self_of, kept_multistream}
 use Rattle.opus_multi.proofs.FormsLemmas.{kept_multistream-unique}
 use Rattle.opus_words.specs.declared.form.Form.{Form}
 use Rattle.opus_words.specs.declared.form.Form.TheVariants.{Raw, Demo, SelfDelimited}
 use Rattle.rec_store.specs.DemoStore.{demo_record, IsDemoRecord}
 use Rattle.rec_store.proofs.DemoLemmas.{demo_record-front, length-demo_record}
 use Rattle.pack_records.specs.declared.cut.Cut.{Cut}
-use Rattle.pack_records.specs.Demo.{StoreRecord, IsStoreRecord}
 use Rattle.job_ends.specs.Refusal.{told}
 use Rattle.pack_jobs.specs.Records.{record_bytes}
 use Rattle.pack_jobs.proofs.FormSizes.{form_sizes}
+use Rattle.pack_jobs.proofs.KeptBytes.{kept_small}
 use Rattle.stream_records.specs.declared.item.StreamsItem.{StreamsItem}
-use Rattle.stream_records.specs.Holds.{Choices, Holds, HoldsStreams, held_as, spelling_of}
-use Rattle.stream_records.specs.Raw.{RawEnds}
-use Rattle.stream_records.specs.Demo.{ShowsPayload, ShowsRest, ShowsStore}
+use Rattle.stream_records.specs.Holds.{Choices, held_as}
 use Rattle.stream_jobs.specs.declared.refusal.StreamWhy.{StreamWhy}
-use Rattle.stream_jobs.specs.Each.{Makes, found_made, made_of}
-use Rattle.job_ends.specs.Each.{Made, writes, text_of, texts_from, IsWritten, AreWritten}
-use Rattle.stream_jobs.specs.Norm.{long_from, long_in, norm_packets, norm_makes, norm}
-use Rattle.stream_jobs.specs.StreamEnds.{ends_in}
-use Rattle.stream_jobs.specs.Contents.{Content, content_of, HoldsHeld, HasStreams, IsStored, AreStored, IsOnePacket, AreContents}
+use Rattle.stream_jobs.specs.Each.{found_made, made_of}
+use Rattle.job_ends.specs.Each.{Made, text_of, texts_from, IsWritten, AreWritten}
+use Rattle.stream_jobs.specs.Norm.{long_in, norm_packets, norm_makes, norm}
+use Rattle.stream_jobs.specs.Contents.{Content, content_of, HoldsHeld, HasStreams, AreStored, IsOnePacket, AreContents}
 use Rattle.job_ends.proofs.EachLemmas.{each_written}
 use Rattle.stream_jobs.specs.Refusal.{cut_refusal}
 
 -- ---- what is held of so many streams
-
-small_by : (b : Bool) (tail : List ℕ) → nat_le (length tail) max_tail ≡ b
-    → length (kept_bytes (if b then kept tail else counted (length tail))) ≤ max_tail
-small_by true tail e = leb-true (length tail) max_tail e
-small_by false tail e = omega arith
-
-pub kept_small : (padding : Padding) (tail : List ℕ) → length (kept_bytes (tail_kept padding tail)) ≤ max_tail
-kept_small Drop [] = omega arith
-kept_small Drop (x ∷ xs) = omega arith
-kept_small Keep tail = small_by (nat_le (length tail) max_tail) tail refl
 
 first_values : (padding : Padding) (ss : List SpelledStream) (last : SpelledStream) (bytes rest : List ℕ)
     → StandFirst ss bytes rest → IsPacketValue last.value
@@ -239,124 +221,3 @@ norm_agree form c d rs ss xs ys u v a b most is p q one two =
       λ same. contents_same form c d rs ss xs ys most is p q (sym left ∙ same ∙ right),
       λ same. left ∙ ap (flat_map (content_text form)) same ∙ sym right,
     )
-
--- ---- all that norm takes has contents
-
--- a job that refuses each record that isn't good
-pub made_good : (c : Choices) (makes : Makes) (number start range : ℕ) (bytes : List ℕ) (r : Shown StreamsItem)
-    → Holds c start range bytes r → IsWritten (made_of c.streams makes number r) → HoldsStreams c start range bytes r
-made_good c makes number start range bytes r (inl holds) written = holds
-made_good c makes number start range bytes r (inr (inl broken)) written =
-    absurd (subst (λ (s : Shown StreamsItem). IsWritten (made_of c.streams makes number s)) broken.shows written)
-made_good c makes number start range bytes r (inr (inr unequal)) written =
-    absurd (subst (λ (s : Shown StreamsItem). IsWritten (made_of c.streams makes number s)) unequal.shows written)
-
-held_by : (c : Choices) (start range : ℕ) (bytes : List ℕ) (r : Shown StreamsItem) (holds : HoldsStreams c start range bytes r)
-    → HoldsHeld c range (map (held_as c.padding) holds.streams) r
-held_by c start range bytes r holds = record { start = start; bytes = bytes; holds = holds; held = refl }
-
-payload_content : (c : Choices) (makes : Makes) (number start range : ℕ) (payload : List ℕ) (r : Shown StreamsItem)
-    → range < 2 ^ 32 → ShowsPayload c start range payload r → IsWritten (made_of c.streams makes number r)
-    → (x : Content) × IsStored c r x
-payload_content c makes number start range [] r fits shows written =
-    (content_of range None, record { fits = fits; has = (start, shows) })
-payload_content c makes number start range (b ∷ bs) r fits shows written =
-    let holds = made_good c makes number start range (b ∷ bs) r shows written in
-    (content_of range (Some (map (held_as c.padding) holds.streams)), record { fits = fits; has = held_by c start range (b ∷ bs) r holds })
-
-rest_contents : (c : Choices) (makes : Makes) (number at : ℕ) (rest : List ℕ) (rs : List (Shown StreamsItem))
-    → ShowsRest c.streams at rest rs → AreWritten (λ n. made_of c.streams makes (told n)) number rs
-    → (xs : List Content) × AreStored c rs xs
-rest_contents c makes number at rest rs (inl early) written =
-    let all = subst (AreWritten (λ n. made_of c.streams makes (told n)) number) early.shows written in
-    absurd (subst (λ (s : Shown StreamsItem). IsWritten (made_of c.streams makes (told number) s)) early.early.holds.shows all.0)
-rest_contents c makes number at rest rs (inr none) written = ([], subst (λ l. AreStored c l []) (sym none.shows) tt)
-
-pub store_contents : (c : Choices) (makes : Makes) (number at : ℕ) (ss : List StoreRecord) (rest : List ℕ)
-    (rs : List (Shown StreamsItem)) → AllByRecursion IsStoreRecord ss → ShowsStore c at ss rest rs
-    → AreWritten (λ n. made_of c.streams makes (told n)) number rs → (xs : List Content) × AreStored c rs xs
-store_contents c makes number at [] rest rs are shows written = rest_contents c makes number at rest rs shows written
-store_contents c makes number at (s ∷ ss) rest [] are shows written = absurd shows
-store_contents c makes number at (s ∷ ss) rest (r ∷ rs) are shows written =
-    let (x, first) = payload_content c makes (told number) (at + 8) s.range s.payload r are.0.range_fits shows.0 written.0 in
-    let (xs, behind) = store_contents c makes (number + 1) (at + (8 + length s.payload)) ss rest rs are.1 shows.1 written.1 in
-    (x ∷ xs, (first, behind))
-
-raw_contents : (c : Choices) (makes : Makes) (x : List ℕ) (rs : List (Shown StreamsItem)) (cut : Option Cut) → RawEnds c x rs cut
-    → AreWritten (λ n. made_of c.streams makes (told n)) 0 rs → (xs : List Content) × IsOnePacket c rs xs
-raw_contents c makes x rs cut ends written =
-    let all = subst (AreWritten (λ n. made_of c.streams makes (told n)) 0) ends.records_are written in
-    let holds = made_good c makes (told 0) 0 0 x ends.shown ends.holds all.0 in
-    let hs = map (held_as c.padding) holds.streams in (
-      content_of 0 (Some hs) ∷ [],
-      record { shown = ends.shown; held = hs; holds = held_by c 0 0 x ends.shown holds; records_are = ends.records_are; contents_are = refl },
-    )
-
-form_contents : (form : Form) (c : Choices) (makes : Makes) (x : List ℕ) (rs : List (Shown StreamsItem)) (cut : Option Cut)
-    → ends_in form c x rs cut → AreWritten (λ n. made_of c.streams makes (told n)) 0 rs
-    → (xs : List Content) × AreContents form c rs xs
-form_contents Raw c makes x rs cut ends written = raw_contents c makes x rs cut ends written
-form_contents Demo c makes x rs cut ends written =
-    store_contents c makes 0 0 ends.1.whole ends.0 rs ends.1.are ends.1.shows written
-form_contents SelfDelimited c makes x rs cut ends written = absurd ends
-
-pub norm_contents : (form : Form) (c : Choices) (x : List ℕ) (rs : List (Shown StreamsItem)) (cut : Option Cut)
-    (end : InputEnd Cut) (text : List ℕ) → ends_in form c x rs cut
-    → outcome (norm form c.streams c.padding) rs end ≡ going text tt → (xs : List Content) × AreContents form c rs xs
-norm_contents form c x rs cut end text ends e =
-    let (written, uncut, is) = (each_written cut_refusal (norm_made form c) rs end text).0 e in
-    form_contents form c (norm_makes form c.streams c.padding) x rs cut ends written
-
--- ---- where padding bytes are dropped
-
-none_kept : (tail : List ℕ) → kept_bytes (tail_kept Drop tail) ≡ []
-none_kept [] = refl
-none_kept (x ∷ xs) = refl
-
-pub bare_held : (ss : List SpelledStream) → map (held_as Drop) ss ≡ map bare (map (λ s. s.value) ss)
-bare_held [] = refl
-bare_held (s ∷ ss) =
-    ap (λ l. record { value = s.value; tail = l } ∷ map (held_as Drop) ss) (none_kept s.tail)
-    ∙ ap (λ l. bare s.value ∷ l) (bare_held ss)
-
--- ---- where padding bytes are kept
-
--- a stream with all of its padding bytes
-abbrev pub whole_held : SpelledStream → HeldRead
-whole_held s = record { value = s.value; tail = s.tail }
-
-none_long_by : (number : ℕ) (rest : Option ℕ) (b : Bool) → (if b then Some number else rest) ≡ None → (b ≡ false) × (rest ≡ None)
-none_long_by number rest true e = let absent = e in cc
-none_long_by number rest false e = (refl, e)
-
-kept_whole : (tail : List ℕ) (b : Bool) → nat_le (length tail) max_tail ≡ b
-    → nat_lt 0 (dropped_of (if b then kept tail else counted (length tail))) ≡ false
-    → kept_bytes (if b then kept tail else counted (length tail)) ≡ tail
-kept_whole tail true e none = refl
-kept_whole tail false e none =
-    absurd (omega (arith, leb-false (length tail) max_tail e, ltb-false 0 (length tail) none))
-
-whole_from : (number : ℕ) (ss : List SpelledStream) → long_from number (map (spelling_of Keep) ss) ≡ None
-    → map (held_as Keep) ss ≡ map whole_held ss
-whole_from number [] none = refl
-whole_from number (s ∷ ss) none =
-    let both = none_long_by number (long_from (number + 1) (map (spelling_of Keep) ss))
-    (nat_lt 0 (dropped_of (tail_kept Keep s.tail))) none in
-    ap (λ l. record { value = s.value; tail = l } ∷ map (held_as Keep) ss)
-    (kept_whole s.tail (nat_le (length s.tail) max_tail) refl both.0)
-    ∙ ap (λ l. whole_held s ∷ l) (whole_from (number + 1) ss both.1)
-
-not_refused : (form : Form) (streams : ℕ) (r : Shown StreamsItem) (o : Option ℕ) → IsWritten (norm_packets form streams r o)
-    → o ≡ None
-not_refused form streams r None written = refl
-not_refused form streams r (Some stream) written = absurd written
-
-pub kept_held : (form : Form) (streams number start range : ℕ) (bytes : List ℕ) (r : Shown StreamsItem) (text : List ℕ)
-    → (holds : HoldsStreams (record { streams = streams; padding = Keep }) start range bytes r)
-    → made_of streams (norm_makes form streams Keep) number r ≡ writes text
-    → map (held_as Keep) holds.streams ≡ map (λ s. record { value = s.value; tail = s.tail }) holds.streams
-kept_held form streams number start range bytes r text holds is =
-    let made : made_of streams (norm_makes form streams Keep) number r ≡ norm_packets form streams r (long_in Keep r.item.streams.items) =
-    ap (λ (s : Shown StreamsItem). found_made streams (norm_makes form streams Keep) number r s.item.found) holds.shows in
-    let none = not_refused form streams r (long_in Keep r.item.streams.items) (subst IsWritten (sym is ∙ made) tt) in
-    whole_from 0 holds.streams (sym (ap (λ (s : Shown StreamsItem). long_in Keep s.item.streams.items) holds.shows) ∙ none)

@@ -1,43 +1,27 @@
 -- What norm wrote of multistream packets is read again, and norm leaves it as it is.
-use Rattle.std.proofs.Common.{◌≡◌, ℕ, ◌+◌, ◌<◌, ◌≤◌, ◌^◌, Bool, true, false, nat_le, if◌then◌else◌, List, [], ◌∷◌, ◌++◌, length, drop, map, flat_map, Option, None, Some, inl, inr, refl, sym, ap, ◌∙◌, subst, append-nil, arith}
-use Rattle.std.proofs.lemmas.List.{length-map}
-use Rattle.std.specs.List.{AllByRecursion, concat}
-use Rattle.std.specs.Int.{w32, to_be_bytes}
+use Rattle.std.proofs.Common.{◌≡◌, ℕ, ◌+◌, ◌<◌, ◌≤◌, ◌^◌, List, [], ◌∷◌, ◌++◌, length, map, flat_map, Option, None, Some, inl, inr, refl, sym, ap, ◌∙◌, subst, append-nil, arith}
+use Rattle.std.specs.List.{AllByRecursion}
 use Rattle.job_loop.specs.Shown.{Shown}
 use Rattle.job_loop.specs.Meaning.{going, outcome}
 use Rattle.job_loop.specs.declared.input_end.InputEnd.{InputEnd}
 use Rattle.job_loop.specs.declared.input_end.InputEnd.TheVariants.{Closed}
 use Rattle.rec_store.specs.DemoStore.{demo_head, demo_record}
 use Rattle.rec_store.proofs.DemoLemmas.{NoWholeRecord-short}
-use Rattle.opus_packet.specs.Value.{PacketValue, IsPacketValue}
 use Rattle.opus_packet.specs.PacketPrefix.{AreBytes}
-use Rattle.opus_packet.specs.PacketGrammar.{header_for}
-use Rattle.opus_packet.specs.SelfGrammar.{self_header_bytes}
-use Rattle.opus_packet.specs.Header.{header_bytes}
-use Rattle.opus_packet.specs.Held.{HeldRead}
-use Rattle.opus_packet.specs.Tail.{kept, counted, kept_bytes, max_tail}
-use Rattle.opus_packet.proofs.BytesLemmas.{AreBytes-append, AreBytes-left, AreBytes-right, AreBytes-take, AreBytes-drop}
-use Rattle.opus_feed.specs.declared.framing.Framing.TheVariants.{Whole, SelfDelimited as Delimited}
-use Rattle.opus_feed.specs.declared.padding.Padding.{Padding}
-use Rattle.opus_feed.specs.declared.padding.Padding.TheVariants.{Drop, Keep}
-use Rattle.opus_feed.specs.Tails.{tail_kept}
-use Rattle.opus_multi.specs.Streams.{SpelledStream, BeginsWithStream, StandFirst, IsLastStream, AreStreams}
-use Rattle.opus_multi.specs.Durations.{HaveOneDuration}
-use Rattle.opus_multi.specs.Multistream.{durations_of, IsMultistream}
-use Rattle.opus_multi.specs.Forms.{kept_self_of, kept_multistream}
+use Rattle.opus_packet.proofs.BytesLemmas.{AreBytes-append, AreBytes-left, AreBytes-right}
+use Rattle.opus_multi.specs.Forms.{kept_multistream}
 use Rattle.opus_words.specs.declared.form.Form.{Form}
 use Rattle.opus_words.specs.declared.form.Form.TheVariants.{Raw, Demo, SelfDelimited}
 use Rattle.pack_records.specs.declared.cut.Cut.{Cut}
 use Rattle.pack_records.specs.Demo.{StoreRecord, store_of, IsStoreRecord}
 use Rattle.job_ends.specs.Refusal.{told}
-use Rattle.pack_jobs.proofs.FormBytes.{form-are}
+use Rattle.pack_jobs.proofs.StoreBytes.{record-are}
 use Rattle.stream_records.specs.declared.item.StreamsItem.{StreamsItem}
-use Rattle.stream_records.specs.Holds.{Choices, HoldsStreams, held_as, lost_record, packets_record}
+use Rattle.stream_records.specs.Holds.{Choices, HoldsStreams, lost_record}
 use Rattle.stream_records.specs.Raw.{RawEnds}
 use Rattle.stream_records.specs.Demo.{ShowsPayload, ShowsRest, ShowsStore, DemoEnds}
 use Rattle.stream_records.specs.DemoRests.{some_shows}
 use Rattle.stream_records.proofs.DemoFronts.{undecided_short}
-use Rattle.stream_records.proofs.LentLemmas.{lent_values}
 use Rattle.job_ends.specs.Each.{texts_from, IsWritten, AreWritten}
 use Rattle.stream_jobs.specs.Norm.{norm_makes, norm}
 use Rattle.stream_jobs.specs.StreamEnds.{ends_in}
@@ -45,177 +29,9 @@ use Rattle.stream_jobs.specs.Contents.{Content, content_of, HoldsHeld, IsStored,
 use Rattle.stream_jobs.specs.NormAgain.{IsNormAgain}
 use Rattle.job_ends.proofs.EachLemmas.{each_written}
 use Rattle.stream_jobs.specs.Refusal.{cut_refusal}
-use Rattle.stream_jobs.proofs.LawLemmas.{norm-held}
-use Rattle.stream_jobs.proofs.AgreeLemmas.{kept_small, are_held, form_some, held_fits, payload_in, content_text, norm_made, norm_text, made_good}
-
--- ---- what is kept of padding bytes
-
-abbrev kept_in : Padding → List ℕ → List ℕ
-kept_in padding tail = kept_bytes (tail_kept padding tail)
-
-again_by : (b : Bool) (tail : List ℕ) → nat_le (length tail) max_tail ≡ b
-    → kept_in Keep (kept_bytes (if b then kept tail else counted (length tail)))
-    ≡ kept_bytes (if b then kept tail else counted (length tail))
-again_by true tail e = ap (λ b. kept_bytes (if b then kept tail else counted (length tail))) e
-again_by false tail e = refl
-
-kept_again : (padding : Padding) (tail : List ℕ) → kept_in padding (kept_in padding tail) ≡ kept_in padding tail
-kept_again Drop [] = refl
-kept_again Drop (x ∷ xs) = refl
-kept_again Keep tail = again_by (nat_le (length tail) max_tail) tail refl
-
-are_by : (b : Bool) (tail : List ℕ) → AreBytes tail
-    → AreBytes (kept_bytes (if b then kept tail else counted (length tail)))
-are_by true tail are = are
-are_by false tail are = tt
-
-kept_are : (padding : Padding) (tail : List ℕ) → AreBytes tail → AreBytes (kept_in padding tail)
-kept_are Drop [] are = tt
-kept_are Drop (x ∷ xs) are = tt
-kept_are Keep tail are = are_by (nat_le (length tail) max_tail) tail are
-
--- ---- the bytes of a kept form
-
--- a value whose frames and padding bytes are bytes
-record IsOwn (h : HeldRead) : Type 0 where
-  value : IsPacketValue h.value
-  frames : AreBytes (concat h.value.frames)
-  tail : AreBytes h.tail
-
-own_first : (padding : Padding) (s : SpelledStream) (bytes : List ℕ) → BeginsWithStream s bytes → AreBytes bytes
-    → IsOwn (held_as padding s)
-own_first padding s bytes stands are =
-    let is = stands.spelled in
-    let header = self_header_bytes s.value s.shape in
-    let all = subst AreBytes is.spelled (AreBytes-take s.size bytes are) in
-    record {
-      value = is.value;
-      frames = AreBytes-right header (concat s.value.frames) (AreBytes-left (header ++ concat s.value.frames) s.tail all);
-      tail = kept_are padding s.tail (AreBytes-right (header ++ concat s.value.frames) s.tail all);
-    }
-
-own_last : (padding : Padding) (s : SpelledStream) (bytes : List ℕ) → IsLastStream s bytes → AreBytes bytes
-    → IsOwn (held_as padding s)
-own_last padding s bytes ends are =
-    let is = ends.spelled in
-    let header = header_bytes (header_for s.value s.shape) in
-    let all = subst AreBytes is.spelled are in
-    record {
-      value = is.value;
-      frames = AreBytes-right header (concat s.value.frames) (AreBytes-left (header ++ concat s.value.frames) s.tail all);
-      tail = kept_are padding s.tail (AreBytes-right (header ++ concat s.value.frames) s.tail all);
-    }
-
-own_by : (padding : Padding) (ss : List SpelledStream) (last : SpelledStream) (bytes rest : List ℕ)
-    → StandFirst ss bytes rest → IsLastStream last rest → AreBytes bytes
-    → AllByRecursion IsOwn (map (held_as padding) (ss ++ last ∷ []))
-own_by padding [] last bytes rest stand ends are = (own_last padding last rest ends (subst AreBytes stand are), tt)
-own_by padding (s ∷ ss) last bytes rest stand ends are = (
-  own_first padding s bytes stand.0 are,
-  own_by padding ss last (drop s.size bytes) rest stand.1 ends (AreBytes-drop s.size bytes are),
-)
-
-own_streams : (padding : Padding) (ss : List SpelledStream) (bytes : List ℕ) → AreStreams ss bytes → AreBytes bytes
-    → AllByRecursion IsOwn (map (held_as padding) ss)
-own_streams padding ss bytes a are =
-    subst (λ l. AllByRecursion IsOwn (map (held_as padding) l)) (sym a.streams_are)
-    (own_by padding a.front a.last bytes a.rest a.stand a.ends are)
-
-multistream-are : (hs : List HeldRead) → AllByRecursion IsOwn hs → AreBytes (kept_multistream hs)
-multistream-are [] own = tt
-multistream-are (h ∷ []) own = form-are Whole h.value h.tail own.0.value own.0.frames own.0.tail
-multistream-are (h ∷ g ∷ hs) own =
-    AreBytes-append (kept_self_of h) (kept_multistream (g ∷ hs))
-    (form-are Delimited h.value h.tail own.0.value own.0.frames own.0.tail) (multistream-are (g ∷ hs) own.1)
-
--- ---- a kept form that is read again
-
--- the kept form of these is a multistream packet of streams of which the same is kept, and all of it
-record IsAgain (c : Choices) (hs : List HeldRead) : Type 0 where
-  streams : List SpelledStream
-  counted : length streams ≡ c.streams
-  are : AreStreams streams (kept_multistream hs)
-  duration : HaveOneDuration (durations_of streams)
-  held : hs ≡ map (held_as c.padding) streams
-  few : AllByRecursion (λ s. length s.tail ≤ max_tail) streams
-  bytes : AreBytes (kept_multistream hs)
-
-abbrev values_in : List SpelledStream → List PacketValue
-values_in ss = map (λ s. s.value) ss
-
-abbrev tails_in : List SpelledStream → List (List ℕ)
-tails_in ss = map (λ s. s.tail) ss
-
-abbrev kept_tails : Padding → List SpelledStream → List (List ℕ)
-kept_tails padding ss = map (λ s. kept_bytes (tail_kept padding s.tail)) ss
-
-held_again : (padding : Padding) (ss ts : List SpelledStream) → values_in ss ≡ values_in ts
-    → kept_tails padding ss ≡ tails_in ts → map (held_as padding) ss ≡ map (held_as padding) ts
-held_again padding [] [] values tails = refl
-held_again padding [] (t ∷ ts) values tails = let e = values in cc
-held_again padding (s ∷ ss) [] values tails = let e = values in cc
-held_again padding (s ∷ ss) (t ∷ ts) values tails =
-    let value : s.value ≡ t.value = cc in
-    let tail : kept_in padding s.tail ≡ t.tail = cc in
-    let more : values_in ss ≡ values_in ts = cc in
-    let rest : kept_tails padding ss ≡ tails_in ts = cc in
-    ap (λ v. record { value = v; tail = kept_in padding s.tail } ∷ map (held_as padding) ss) value
-    ∙ ap (λ l. record { value = t.value; tail = l } ∷ map (held_as padding) ss)
-    (sym (kept_again padding s.tail) ∙ ap (kept_in padding) tail)
-    ∙ ap (λ l. held_as padding t ∷ l) (held_again padding ss ts more rest)
-
-few_again : (padding : Padding) (ss ts : List SpelledStream) → kept_tails padding ss ≡ tails_in ts
-    → AllByRecursion (λ s. length s.tail ≤ max_tail) ts
-few_again padding ss [] tails = tt
-few_again padding [] (t ∷ ts) tails = let e = tails in cc
-few_again padding (s ∷ ss) (t ∷ ts) tails =
-    let tail : kept_in padding s.tail ≡ t.tail = cc in
-    let rest : kept_tails padding ss ≡ tails_in ts = cc in
-    (subst (λ l. length l ≤ max_tail) tail (kept_small padding s.tail), few_again padding ss ts rest)
-
-abbrev held_in : (c : Choices) (start range : ℕ) (bytes : List ℕ) (r : Shown StreamsItem) → HoldsStreams c start range bytes r
-    → List HeldRead
-held_in c start range bytes r holds = map (held_as c.padding) holds.streams
-
-is_again : (c : Choices) (start range : ℕ) (bytes : List ℕ) (r : Shown StreamsItem) (holds : HoldsStreams c start range bytes r)
-    → AreBytes bytes → IsAgain c (held_in c start range bytes r holds)
-is_again c start range bytes r holds are =
-    let ss = holds.streams in
-    let m = subst (IsMultistream (values_in ss) (kept_tails c.padding ss)) (ap (λ (s : Shown StreamsItem). s.bytes) holds.shows)
-    (lent_values c start range bytes r holds) in
-    record {
-      streams = m.streams;
-      counted = sym (length-map m.streams (λ (s : SpelledStream). s.value)) ∙ ap (λ (l : List PacketValue). length l) (sym m.values_are)
-          ∙ length-map ss (λ (s : SpelledStream). s.value) ∙ holds.counted;
-      are = m.are;
-      duration = m.duration;
-      held = held_again c.padding ss m.streams m.values_are m.tails_are;
-      few = few_again c.padding ss m.streams m.tails_are;
-      bytes = multistream-are (map (held_as c.padding) ss) (own_streams c.padding ss bytes holds.are are);
-    }
-
--- the record of it
-
-abbrev next_record : (c : Choices) (hs : List HeldRead) → IsAgain c hs → ℕ → ℕ → Shown StreamsItem
-next_record c hs a at range = packets_record c.padding at range a.streams (length (kept_multistream hs))
-
-next_holds : (c : Choices) (hs : List HeldRead) (a : IsAgain c hs) (at range : ℕ)
-    → HoldsStreams c at range (kept_multistream hs) (next_record c hs a at range)
-next_holds c hs a at range =
-    record { streams = a.streams; counted = a.counted; are = a.are; duration = a.duration; shows = refl }
-
-next_held : (c : Choices) (hs : List HeldRead) (a : IsAgain c hs) (at range : ℕ)
-    → HoldsHeld c range hs (next_record c hs a at range)
-unfolding next_holds
-next_held c hs a at range =
-    record { start = at; bytes = kept_multistream hs; holds = next_holds c hs a at range; held = a.held }
-
-next_written : (form : Form) (c : Choices) (number : ℕ) (hs : List HeldRead) (a : IsAgain c hs) (at range : ℕ)
-    → IsWritten (norm_made form c number (next_record c hs a at range))
-unfolding next_holds
-next_written form c number hs a at range =
-    subst IsWritten (sym (norm-held form c (told number) at range (kept_multistream hs) (next_record c hs a at range)
-    (next_holds c hs a at range) a.few)) tt
+use Rattle.stream_jobs.proofs.AgreeLemmas.{are_held, form_some, held_fits, payload_in, content_text, norm_made, norm_text}
+use Rattle.stream_jobs.proofs.ContentsLemmas.{made_good}
+use Rattle.stream_jobs.proofs.KeptAgain.{held_in, is_again, next_record, next_holds, next_held, next_written}
 
 -- ---- an input that is read again
 
@@ -265,14 +81,6 @@ raw_again c x rs cut end text ends e =
     }
 
 -- ---- form demo
-
-number-are : (n : ℕ) → AreBytes (to_be_bytes w32 n)
-number-are n = (omega arith, (omega arith, (omega arith, (omega arith, tt))))
-
-record-are : (range : ℕ) (payload : List ℕ) → AreBytes payload → AreBytes (demo_record range payload)
-record-are range payload are =
-    AreBytes-append (demo_head (length payload) range) payload
-    (AreBytes-append (to_be_bytes w32 (length payload)) (to_be_bytes w32 range) (number-are (length payload)) (number-are range)) are
 
 -- the record of a store that norm writes
 abbrev stored : Content → StoreRecord

@@ -1,5 +1,5 @@
 -- A run of a job over multistream packets: want of memory, and the records of its form.
-use Rattle.std.proofs.Common.{◌≡◌, ℕ, List, [], Option, inr, refl, subst, arith}
+use Rattle.std.proofs.Common.{◌≡◌, ℕ, List, [], Option, inr, refl, sym, subst, arith}
 use Rattle.opus_io.specs.Outside.{Outside}
 use Rattle.job_loop.specs.Shown.{Shown}
 use Rattle.opus_feed.specs.declared.padding.Padding.{Padding}
@@ -87,3 +87,12 @@ by_form job limit before after Untouched result form c form_is c_is ends =
 pub choices_are : (job : Job) (streams : ℕ) (padding : Padding) → streams ≡ streams_of job → padding ≡ padding_in job
     → record { streams = streams; padding = padding } ≡ choices_in job
 choices_are job streams padding streams_is padding_is = rw (streams_is, padding_is) refl
+
+-- the job is of this kind
+pub of_kind : (kind : JobKind) (job : Job) (Settles : List ℕ → List (Shown StreamsItem) → Type 0)
+    (Ends : List ℕ → List (Shown StreamsItem) → Option Cut → Type 0) (limit : ℕ) (before after : Outside)
+    (Untouched : Type 0) (result : program.Ending) → job.kind ≡ kind
+    → KindEnds kind job Settles Ends limit before after Untouched result
+    → JobEnds job Settles Ends limit before after Untouched result
+of_kind kind job Settles Ends limit before after Untouched result is ends =
+    subst (λ k. KindEnds k job Settles Ends limit before after Untouched result) (sym is) ends

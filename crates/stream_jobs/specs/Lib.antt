@@ -6,6 +6,7 @@ pub mod JoinEnds
 pub mod JoinGroups
 pub mod Bad
 pub mod Each
+pub mod StreamsJob
 pub mod StreamsIn
 pub mod Norm
 pub mod Apart

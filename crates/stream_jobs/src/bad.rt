@@ -47,11 +47,11 @@ pub(crate) fn broken(
 ) -> StreamRefusal
     ensures { result ≡ refusal_of number (bad_place start fault) (fault_why streams stream fault) }
 {
-    StreamRefusal {
-        index: number,
-        place: bad_place(start, fault),
-        why: fault_why(streams, stream, fault),
-    }
+    StreamRefusal::new(
+        number,
+        bad_place(start, fault),
+        fault_why(streams, stream, fault),
+    )
 }
 
 /// The refusal for a record of which this stream is the first that lasts other than stream 0.
@@ -59,9 +59,5 @@ pub(crate) fn broken(
 pub(crate) fn unequal(number: u64, stream: u8, start: u64) -> StreamRefusal
     ensures { result ≡ refusal_of number start (why.Unequal stream) }
 {
-    StreamRefusal {
-        index: number,
-        place: start,
-        why: StreamWhy::Unequal(stream),
-    }
+    StreamRefusal::new(number, start, StreamWhy::Unequal(stream))
 }

@@ -11,7 +11,7 @@ ghost use Rattle.job_ends.specs.Refusal.{refusal_of};
 use crate::bad::{bad_place, fault_why};
 use crate::refusal::{StreamRefusal, StreamWhy};
 use arrayvec::ArrayString;
-use job_ends::Told;
+use job_ends::{CutReason, Reason};
 use job_loop::{InputEnd, JobStop, Lent, RecordJob};
 use opus_io::{Sink, SinkStop, write_all};
 use pack_jobs::decimal_text;
@@ -56,20 +56,9 @@ impl Check {
             (O.refusals out.old) (O.refusals out.new) result }
         ensures onward { Onward (O.onto out.old) (O.onto out.new) (O.handed out.old) (O.handed out.new) }
     {
-        let refusal = self.refusal(place, why);
+        let refusal = StreamRefusal::new(self.count, place, why);
         self.first = Some(self.first.unwrap_or(refusal));
-        write_line(self.count, refusal.fault().text.as_str(), out)
-    }
-
-    // The refusal for the next record, or for the cut behind the last one.
-    fn refusal(&self, place: u64, why: StreamWhy) -> StreamRefusal
-        ensures { result ≡ refusal_of self.now.count place why }
-    {
-        StreamRefusal {
-            index: self.count,
-            place,
-            why,
-        }
+        write_line(self.count, why.text().as_str(), out)
     }
 }
 
@@ -126,7 +115,7 @@ impl RecordJob<StreamsItem, Cut> for Check {
                 None => Ok(()),
             },
             InputEnd::Cut(cut) => {
-                let cut = self.refusal(cut.place, StreamWhy::StoreCut);
+                let cut = StreamWhy::cut(self.count, cut);
                 Err(JobStop::Refused(self.first.unwrap_or(cut)))
             }
             InputEnd::Past => Ok(()),

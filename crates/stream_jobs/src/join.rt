@@ -8,12 +8,13 @@ ghost use Rattle.opus_packet.specs.Value.{PacketValue};
 ghost use Rattle.job_ends.specs.Ends.{seen_as};
 ghost use Rattle.job_loop.specs.Telling.{Front};
 ghost use Rattle.job_ends.specs.Refusal.{refusal_of};
+ghost use Rattle.stream_jobs.specs.declared.refusal.StreamWhy.TheVariants.{ShortGroup};
 ghost use Rattle.stream_jobs.specs.Join.{Part, JoinKept, join, part_of, held_in, differs_in, full_text, next_group};
 ghost use Rattle.stream_jobs.specs.JoinEnds.{JoinEnds};
 ghost use Rattle.stream_jobs.specs.JoinParts.{form_at, samples_in};
 
 use crate::refusal::{StreamRefusal, StreamWhy};
-use job_ends::run_made;
+use job_ends::{CutReason, run_made};
 use job_loop::{InputEnd, JobStop, Lent, RecordJob, write_both};
 use opus_feed::Padding;
 use opus_io::{NoMemory, Sink, SinkStop, Source};
@@ -137,15 +138,11 @@ impl Join {
         written
     }
 
-    // The refusal for the next record or for the end behind the last one.
-    fn refuse(&self, place: u64, why: StreamWhy) -> StreamRefusal
-        ensures { result ≡ refusal_of self.now.count place why }
+    // The refusal of a group that is too short at the end of the input.
+    fn short_at(&self, place: u64) -> StreamRefusal
+        ensures { result ≡ refusal_of self.now.count place ShortGroup }
     {
-        StreamRefusal {
-            index: self.count,
-            place,
-            why,
-        }
+        StreamRefusal::new(self.count, place, StreamWhy::ShortGroup)
     }
 }
 
@@ -221,11 +218,11 @@ impl RecordJob<Item, Cut> for Join {
             Err(fault) => {
                 let place = record.start.saturating_add(fault.place);
                 let why = StreamWhy::Fault(fault);
-                return Err(JobStop::Refused(self.refuse(place, why)));
+                return Err(JobStop::Refused(StreamRefusal::new(self.count, place, why)));
             }
         };
         if let Some(why) = self.differs(samples_of(&packet)) {
-            return Err(JobStop::Refused(self.refuse(record.place, why)));
+            return Err(JobStop::Refused(StreamRefusal::new(self.count, record.place, why)));
         }
         self.put(record.range, &packet, out)?;
         self.count = self.count.saturating_add(1);
@@ -240,14 +237,12 @@ impl RecordJob<Item, Cut> for Join {
     ) -> Result<(), JobStop<StreamRefusal>> {
         match end {
             InputEnd::Closed if self.taken > 0 => {
-                Err(JobStop::Refused(self.refuse(self.place, StreamWhy::ShortGroup)))
+                Err(JobStop::Refused(self.short_at(self.place)))
             }
             InputEnd::Cut(cut) if self.taken > 0 => {
-                Err(JobStop::Refused(self.refuse(cut.place, StreamWhy::ShortGroup)))
+                Err(JobStop::Refused(self.short_at(cut.place)))
             }
-            InputEnd::Cut(cut) => {
-                Err(JobStop::Refused(self.refuse(cut.place, StreamWhy::StoreCut)))
-            }
+            InputEnd::Cut(cut) => Err(JobStop::Refused(StreamWhy::cut(self.count, cut))),
             _ => Ok(()),
         }
     }

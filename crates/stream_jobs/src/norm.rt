@@ -58,11 +58,10 @@ impl MakeStreams for Norm {
     ) -> Result<(), JobStop<StreamRefusal>> {
         let record = item.item();
         match self.first_long(record.streams.as_slice()) {
-            Some(stream) => Err(JobStop::Refused(StreamRefusal {
-                index: number,
-                place: record.place,
-                why: long_why(self.streams, stream),
-            })),
+            Some(stream) => {
+                let why = long_why(self.streams, stream);
+                Err(JobStop::Refused(StreamRefusal::new(number, record.place, why)))
+            }
             None => {
                 write_record(self.form, record.range, item.bytes(), out)?;
                 Ok(())

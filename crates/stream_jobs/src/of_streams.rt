@@ -6,11 +6,13 @@ ghost use Rattle.job_loop.specs.Telling.{Goes, Stops, Front};
 ghost use Rattle.job_loop.specs.Causes.{Causes, is_write_stop, is_memory_stop};
 ghost use Rattle.job_ends.specs.Each.{made_step};
 ghost use Rattle.stream_records.specs.Fits.{StreamsFit};
-ghost use Rattle.stream_jobs.specs.Each.{Makes, made_of};
+ghost use Rattle.job_ends.specs.EachStands.{EachStands};
+ghost use Rattle.stream_jobs.specs.Each.{Makes, made_of, each};
+ghost use Rattle.stream_jobs.specs.StreamsJob.{streams_job};
 
 use crate::bad::{broken, unequal};
 use crate::refusal::{StreamRefusal, StreamWhy};
-use job_ends::Make;
+use job_ends::{Each, Make};
 use job_loop::{JobStop, Lent};
 use opus_io::{Sink, SinkStop};
 use pack_records::Cut;
@@ -54,13 +56,12 @@ pub(crate) struct OfStreams<M> {
     streams: u8,
 }
 
-impl<M> OfStreams<M> {
-    pub(crate) fn new(make: M, streams: u8) -> OfStreams<M>
-        ensures make { result.make ≡ make }
-        ensures streams { result.streams ≡ streams }
-    {
-        OfStreams { make, streams }
-    }
+/// The job that makes this of each record of so many streams, before the first record.
+pub(crate) fn each<M: MakeStreams>(make: M, streams: u8) -> Each<OfStreams<M>>
+    ensures job { streams_job M.makes result ≡ each streams (M.makes make) }
+    ensures stands { EachStands result 0 }
+{
+    Each::new(OfStreams { make, streams })
 }
 
 impl<M: MakeStreams> Make<StreamsItem, Cut> for OfStreams<M> {
@@ -83,13 +84,7 @@ impl<M: MakeStreams> Make<StreamsItem, Cut> for OfStreams<M> {
                 stream,
                 start,
                 fault,
-            } => Err(JobStop::Refused(broken(
-                number,
-                self.streams,
-                stream,
-                start,
-                fault,
-            ))),
+            } => Err(JobStop::Refused(broken(number, self.streams, stream, start, fault))),
             StreamsFound::Unequal { stream, start } => {
                 Err(JobStop::Refused(unequal(number, stream, start)))
             }

@@ -1,7 +1,7 @@
 //! Why a job over packets of several streams refuses an input, in numbers, and the text of it.
 ghost use Rattle.std.specs.Prelude.{◌≡◌, ◌≤◌, ◌+◌, ◌++◌, length};
 ghost use Rattle.arrayvec.specs.ArrayString.{array_string_len};
-ghost use Rattle.stream_jobs.specs.Refusal.{why_text, stream_text, cut_refusal};
+ghost use Rattle.stream_jobs.specs.Refusal.{why_text, stream_text};
 
 use arrayvec::ArrayString;
 use job_ends::{CutReason, Reason, Refusal, text_of};
@@ -37,38 +37,30 @@ impl Reason for StreamWhy {
     ghost words = { why_text };
 
     fn text(self) -> ArrayString<64> {
-        why_text(self)
+        match self {
+            StreamWhy::Fault(fault) => fault_text(fault),
+            StreamWhy::StreamFault { stream, fault } => {
+                let mut text = stream_text("", stream, " ");
+                text.push_str(fault_text(fault).as_str());
+                text
+            }
+            StreamWhy::Unequal(stream) => stream_text("unequal ", stream, ""),
+            StreamWhy::LostPart => text_of("lost part"),
+            StreamWhy::ShortGroup => text_of("short group"),
+            StreamWhy::StoreCut => text_of("store cut"),
+            StreamWhy::PaddingLong => text_of("padding long"),
+            StreamWhy::StreamPaddingLong(stream) => stream_text("", stream, " padding long"),
+        }
     }
 }
 
 impl CutReason<Cut> for StreamWhy {
+    ghost use Rattle.stream_jobs.specs.Refusal.{cut_refusal};
+
     ghost cut_refusal = { cut_refusal };
 
     fn cut(index: u64, cut: &Cut) -> StreamRefusal {
-        StreamRefusal {
-            index,
-            place: cut.place,
-            why: StreamWhy::StoreCut,
-        }
-    }
-}
-
-fn why_text(why: StreamWhy) -> ArrayString<64>
-    ensures { result.bytes ≡ why_text why }
-{
-    match why {
-        StreamWhy::Fault(fault) => fault_text(fault),
-        StreamWhy::StreamFault { stream, fault } => {
-            let mut text = stream_text("", stream, " ");
-            text.push_str(fault_text(fault).as_str());
-            text
-        }
-        StreamWhy::Unequal(stream) => stream_text("unequal ", stream, ""),
-        StreamWhy::LostPart => text_of("lost part"),
-        StreamWhy::ShortGroup => text_of("short group"),
-        StreamWhy::StoreCut => text_of("store cut"),
-        StreamWhy::PaddingLong => text_of("padding long"),
-        StreamWhy::StreamPaddingLong(stream) => stream_text("", stream, " padding long"),
+        StreamRefusal::new(index, cut.place, StreamWhy::StoreCut)
     }
 }
 

@@ -9,9 +9,9 @@ use crate::apart::Apart;
 use crate::check::Check;
 use crate::extract::Extract;
 use crate::norm::Norm;
-use crate::of_streams::OfStreams;
+use crate::of_streams::each;
 use crate::show::Show;
-use job_ends::{Each, padding_in, run_over};
+use job_ends::{padding_in, run_over};
 use job_loop::Form as RecordForm;
 use opus_io::{NoMemory, Sink, Source};
 use opus_words::{Ending, Form, Job, JobKind};
@@ -120,7 +120,7 @@ where
     let streams = streams_of(job);
     match job.kind {
         JobKind::Norm => {
-            let norm = Each::new(OfStreams::new(norm_of(job), streams));
+            let norm = each(norm_of(job), streams);
             run_over(alloc, limit, records, Ok(norm), source, out)
         }
         JobKind::Check => {
@@ -128,16 +128,16 @@ where
             run_over(alloc, limit, records, Ok(check), source, out)
         }
         JobKind::Show => {
-            let show = Each::new(OfStreams::new(Show { streams }, streams));
+            let show = each(Show { streams }, streams);
             run_over(alloc, limit, records, Ok(show), source, out)
         }
         JobKind::Apart => {
-            let apart = Each::new(OfStreams::new(Apart { streams }, streams));
+            let apart = each(Apart { streams }, streams);
             run_over(alloc, limit, records, Ok(apart), source, out)
         }
         JobKind::Extract => {
             let stream = stream_of(job);
-            let extract = Each::new(OfStreams::new(Extract { streams, stream }, streams));
+            let extract = each(Extract { streams, stream }, streams);
             run_over(alloc, limit, records, Ok(extract), source, out)
         }
         _ => unreachable!(),

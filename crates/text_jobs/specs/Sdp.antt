@@ -1,6 +1,6 @@
 -- The job sdp: each line in its printed form, and lines of blanks alone passed over. Which lines there are, what they
 -- say and how they are printed is opus_sdp's (RFC 7587, 6 and 7).
-use Rattle.std.specs.Prelude.{◌≡◌, ℕ, ◌+◌, ◌-◌, ◌^◌, min, if◌then◌else◌, List, [], ◌∷◌, ◌++◌, codes, Option, None, Some}
+use Rattle.std.specs.Prelude.{◌≡◌, ℕ, ◌+◌, if◌then◌else◌, List, [], ◌∷◌, ◌++◌, codes, Option, None, Some}
 use Rattle.job_loop.specs.Shown.{Shown}
 use Rattle.job_loop.specs.Meaning.{Meaning, Step, goes, stops}
 use Rattle.opus_sdp.specs.Grammar.{are_blank}
@@ -9,6 +9,7 @@ use Rattle.opus_sdp.specs.Reading.{fmtp_in, rtpmap_in}
 use Rattle.opus_sdp.specs.SdpLine.{SdpValue, OfRtpmap, OfFmtp, sdp_fault, sdp_text}
 use Rattle.opus_sdp.specs.declared.fault.SdpFault.{SdpFault}
 use Rattle.opus_words.specs.declared.ending.JobFault.{JobFault}
+use Rattle.job_ends.specs.Refusal.{told}
 use Rattle.text_jobs.specs.declared.line.Line.{Line}
 use Rattle.text_jobs.specs.declared.line.NoCut.{NoCut}
 use Rattle.text_jobs.specs.declared.refusal.SdpRefusal.{SdpRefusal}
@@ -17,10 +18,6 @@ use Rattle.text_jobs.specs.Telling.{fault_place, sdp_fault_text}
 -- what a line says in which there is no fault
 abbrev pub sdp_in : List ℕ → SdpValue
 sdp_in line = if begins_with (codes "a=rtpmap:") line then OfRtpmap (rtpmap_in line) else OfFmtp (fmtp_in line)
-
--- a number or place as it is told, in 64 bits: itself, up to the greatest of them
-abbrev pub told : ℕ → ℕ
-told n = min n (2 ^ 64 - 1)
 
 -- the refusal for a fault of the line that has this number, from 0, and begins there
 abbrev pub sdp_refusal : ℕ → ℕ → SdpFault → SdpRefusal

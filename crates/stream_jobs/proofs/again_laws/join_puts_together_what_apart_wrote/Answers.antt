@@ -1,4 +1,5 @@
-use Rattle.stream_jobs.proofs.JoinAgainLemmas.{apart_taken, joined_again}
+use Rattle.stream_jobs.proofs.ApartTaken.{apart_taken}
+use Rattle.stream_jobs.proofs.JoinAgainLemmas.{joined_again}
 use Rattle.stream_jobs.proofs.again_laws.join_puts_together_what_apart_wrote.Goals as goal
 
 pub returns-clause-taken : goal.returns-clause-taken

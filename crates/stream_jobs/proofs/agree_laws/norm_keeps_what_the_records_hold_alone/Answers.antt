@@ -1,4 +1,6 @@
-use Rattle.stream_jobs.proofs.AgreeLemmas.{norm_agree, norm_contents, kept_held, bare_held}
+use Rattle.stream_jobs.proofs.AgreeLemmas.{norm_agree}
+use Rattle.stream_jobs.proofs.ContentsLemmas.{norm_contents}
+use Rattle.stream_jobs.proofs.PaddingLemmas.{bare_held, kept_held}
 use Rattle.stream_jobs.proofs.agree_laws.norm_keeps_what_the_records_hold_alone.Goals as goal
 
 pub returns-clause-same : goal.returns-clause-same

@@ -9,16 +9,16 @@ returns-in-Raw g c =
     let streams = c.streams_of-streams.result in
     let padding = c.padding_in-padding.result in
     let choices : Choices = record { streams = streams; padding = padding } in
-    by_form c.args.job.now c.args.limit _ _ _ c.run_form.result Raw choices (sym c.in-Raw.is ∙ c.form_of.ensures)
+    by_form c.args.job.now c.args.limit _ _ _ c.run_kind.result Raw choices (sym c.in-Raw.is ∙ c.form_of.ensures)
     (choices_are c.args.job.now streams padding c.streams_of-streams.ensures.is c.padding_in-padding.ensures)
-    (c.run_form.ensures choices c.new-records.ensures.choices (none_settled Raw choices tt))
+    (c.run_kind.ensures choices c.new-records.ensures.choices (none_settled Raw choices tt))
 
 pub returns-in-Demo : goal.returns-in-Demo
 returns-in-Demo g c =
     let streams = c.streams_of-streams.result in
     let padding = c.padding_in-padding.result in
     let choices : Choices = record { streams = streams; padding = padding } in
-    by_form c.args.job.now c.args.limit _ _ _ c.run_form-in-Demo.result Demo choices
+    by_form c.args.job.now c.args.limit _ _ _ c.run_kind-in-Demo.result Demo choices
     (sym c.in-Demo.is ∙ c.form_of.ensures)
     (choices_are c.args.job.now streams padding c.streams_of-streams.ensures.is c.padding_in-padding.ensures)
-    (c.run_form-in-Demo.ensures choices c.new-records-in-Demo.ensures.choices (none_settled Demo choices tt))
+    (c.run_kind-in-Demo.ensures choices c.new-records-in-Demo.ensures.choices (none_settled Demo choices tt))

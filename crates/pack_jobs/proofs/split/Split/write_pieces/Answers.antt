@@ -45,7 +45,6 @@ pieces-preserved g c =
       in_range = omega (arith, c.min.ensures, c.pieces-test.true);
       form = refl;
       most = refl;
-      count = refl;
       frames = refl;
       written = HasWritten-more self.form c.args.range self.most v from to (g.O.Sink.contents c.args.out.now)
           (g.O.Sink.contents c.pieces.out) (g.O.Sink.contents c.write_packet.new.out) self.some

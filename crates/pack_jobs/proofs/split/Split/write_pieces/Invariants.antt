@@ -8,7 +8,6 @@ invariant-pieces g l = record {
   in_range : l.from ≤ l.all;
   form : l.self.form ≡ l.initial.self.form;
   most : l.self.most ≡ l.initial.self.most;
-  count : l.self.count ≡ l.initial.self.count;
   frames : l.self.frames ≡ l.initial.self.frames;
   written : HasWritten l.initial.self.form l.range l.initial.self.most l.packet.value l.from (g.O.Sink.contents l.initial.out) (g.O.Sink.contents l.out);
   faults : g.O.Sink.faults l.out ≡ g.O.Sink.faults l.initial.out;

@@ -1,6 +1,6 @@
 use Rattle.std.proofs.Common.{length, sym, subst, ◌<◌, ◌^◌}
 use Rattle.pack_jobs.proofs.FormSizes.{found_fits}
-use Rattle.pack_jobs.proofs.norm.NormRecordJobItemCut.take.Goals as goal
+use Rattle.pack_jobs.proofs.norm.NormMakeItemCut.make.Goals as goal
 
 pub write_record-requires : goal.write_record-requires
 write_record-requires g c =
