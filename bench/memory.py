@@ -145,20 +145,22 @@ def run(program, words, path, number, preload):
         return Run(done.returncode, done.stdout, done.stderr, taken, told.read() != b"")
 
 
-def faults(job, whole, got):
-    """What a run in which memory was refused did wrong, beside the run in which none was."""
+def faults(job, whole, got, sinks):
+    """What a run in which memory was refused did wrong, beside the run in which none was. Sinks in memory may be refused room."""
     if got.status == NO_MEMORY:
         if got.note != b"opuspack: no memory\n":
             yield f"note {got.note!r}"
         if not whole.output.startswith(got.output):
             yield f"an output of {len(got.output)} bytes that is no front"
-        if job in BEFORE_READING and got.taken:
+        if job in BEFORE_READING and got.taken and not sinks:
             yield f"no memory behind {got.taken} bytes of input"
+    elif sinks and (got.status, got.output) == (whole.status, whole.output) and whole.note.startswith(got.note):
+        return
     elif (got.status, got.output, got.note) != (whole.status, whole.output, whole.note):
         yield f"status {got.status}, {len(got.output)} bytes of output, note {got.note!r}"
 
 
-def row(program, status, words, path, preload):
+def row(program, status, words, path, preload, sinks):
     """Refuses each request of a row in turn: the runs, and what was wrong."""
     whole = run(program, words, path, 0, preload)
     if whole.status != status:
@@ -166,7 +168,7 @@ def row(program, status, words, path, preload):
     runs, wrong = [], []
     while (got := run(program, words, path, len(runs) + 1, preload)).refused:
         runs.append(got)
-        wrong += [f"request {len(runs)}: {fault}" for fault in faults(words[0], whole, got)]
+        wrong += [f"request {len(runs)}: {fault}" for fault in faults(words[0], whole, got, sinks)]
     if got[:3] != whole[:3]:
         wrong.append(f"status {got.status} where nothing is refused any more, or another output or note")
     return runs, wrong
@@ -184,9 +186,27 @@ def told(runs):
     return line
 
 
+def over_sinks():
+    """Builds the program over sinks in memory, with sinks/main.rs in the place of its own main, in a checkout of its own."""
+    top = pathlib.Path(tempfile.mkdtemp(), "checkout")
+    shutil.copytree(TOP, top, ignore=shutil.ignore_patterns(".git"), symlinks=True)
+    main_file = top / "crates/opuspack/src/main.rt"
+    text = main_file.read_text()
+    front = text[:text.index("use crate::arguments")]
+    main_file.write_text(front + (TOP / "bench/sinks/main.rs").read_text())
+    subprocess.run(["git", "init", "-q"], cwd=top, check=True)
+    subprocess.run(["rt", "run", "--", "norm"], cwd=top / "crates/opuspack", stdin=subprocess.DEVNULL, stdout=subprocess.DEVNULL, stderr=subprocess.DEVNULL)
+    return top / "crates/opuspack/out/opuspack"
+
+
 def main():
-    program = pathlib.Path(sys.argv[1]).resolve() if len(sys.argv) > 1 else PROGRAM
-    if program == PROGRAM:
+    words = sys.argv[1:]
+    sinks = "--sinks" in words
+    words = [word for word in words if word != "--sinks"]
+    program = pathlib.Path(words[0]).resolve() if words else PROGRAM
+    if sinks and not words:
+        program = over_sinks()
+    elif program == PROGRAM:
         subprocess.run([TOP / "opuspack", "norm", "--form", "demo"], stdin=subprocess.DEVNULL, check=True)
     differs, total = False, 0
     with tempfile.TemporaryDirectory() as folder:
@@ -197,7 +217,7 @@ def main():
         path = pathlib.Path(folder, "input")
         for status, words, source in ROWS:
             path.write_bytes(source)
-            runs, wrong = row(program, status, words.split(), path, preload)
+            runs, wrong = row(program, status, words.split(), path, preload, sinks)
             total += len(runs)
             print(f"{words}, {len(source)} bytes: {told(runs)}")
             for fault in wrong:
