@@ -194,8 +194,8 @@ def over_sinks():
     text = main_file.read_text()
     front = text[:text.index("use crate::arguments")]
     main_file.write_text(front + (TOP / "bench/sinks/main.rs").read_text())
-    subprocess.run(["git", "init", "-q"], cwd=top, check=True)
-    subprocess.run(["rt", "run", "--", "norm"], cwd=top / "crates/opuspack", stdin=subprocess.DEVNULL, stdout=subprocess.DEVNULL, stderr=subprocess.DEVNULL)
+    quiet = {"stdin": subprocess.DEVNULL, "stdout": subprocess.DEVNULL, "stderr": subprocess.DEVNULL}
+    subprocess.run(["rt", "run", "--", "norm", "--form", "demo"], cwd=top / "crates/opuspack", check=True, **quiet)
     return top / "crates/opuspack/out/opuspack"
 
 
