@@ -36,19 +36,19 @@ pub fn append_form(framing: Framing, packet: &Packet<'_>, out: &mut Vec<u8>)
 {
     match (framing, packet.tail()) {
         (Framing::Whole, Tail::Bytes(_)) => {
-            let _ = keep_size(packet);
+            prove!(keep_size(packet) <= 192_628);
             write_keep(packet, out).unwrap();
         }
         (Framing::Whole, Tail::Dropped(_)) => {
-            let _ = canon_size(packet);
+            prove!(canon_size(packet) <= 192_628);
             write_canon(packet, out).unwrap();
         }
         (Framing::SelfDelimited, Tail::Bytes(_)) => {
-            let _ = keep_self_size(packet);
+            prove!(keep_self_size(packet) <= 192_628);
             write_keep_self(packet, out).unwrap();
         }
         (Framing::SelfDelimited, Tail::Dropped(_)) => {
-            let _ = canon_self_size(packet);
+            prove!(canon_self_size(packet) <= 192_628);
             write_canon_self(packet, out).unwrap();
         }
     }
