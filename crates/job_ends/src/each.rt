@@ -76,7 +76,7 @@ impl<N: Numbers, C, M: Make<N, C>> RecordJob<N, C> for Each<M> {
         &[]
     }
 
-    #[inline]
+    #[inline(always)]
     fn take<O: Sink>(
         &mut self,
         item: &Lent<'_, N>,

@@ -8,9 +8,9 @@ pub mod Each
 pub mod PacketLines
 pub mod Show
 pub mod Pad
-pub mod PadStands
+pub mod PadJob
 pub mod Split
-pub mod SplitStands
+pub mod SplitJob
 pub mod Merge
 pub mod MergeStands
 pub mod Groups

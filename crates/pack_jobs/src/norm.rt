@@ -39,7 +39,7 @@ impl Make<Item, Cut> for Norm {
 
     ghost made = { λ n number r. norm_found n.form n.padding r r.item.found };
 
-    #[inline]
+    #[inline(always)]
     fn make<O: Sink>(
         &mut self,
         number: u64,

@@ -28,7 +28,7 @@ pub(crate) struct Pad {
 impl Pad {
     ghost use Rattle.std.specs.Prelude.{◌<◌, ◌≤◌, ◌^◌, vec_capacity};
     ghost use Rattle.job_ends.specs.EachStands.{EachStands};
-    ghost use Rattle.pack_jobs.specs.PadStands.{pad_job};
+    ghost use Rattle.pack_jobs.specs.PadJob.{pad_job};
 
     /// The job over an input of this form, before its first record: packets of `size` bytes. It takes all memory that it
     /// needs, `size` bytes.
@@ -70,7 +70,7 @@ impl Make<Item, Cut> for Pad {
 
     ghost made = { λ p number r. pad_found p.form p.size r r.item.found };
 
-    #[inline]
+    #[inline(always)]
     fn make<O: Sink>(
         &mut self,
         number: u64,

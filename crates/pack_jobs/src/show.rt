@@ -22,7 +22,7 @@ impl Make<Item, Cut> for Show {
 
     ghost made = { λ s number r. show_found number r r.item.found };
 
-    #[inline]
+    #[inline(always)]
     fn make<O: Sink>(
         &mut self,
         number: u64,

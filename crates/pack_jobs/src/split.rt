@@ -30,7 +30,7 @@ pub(crate) struct Split {
 impl Split {
     ghost use Rattle.std.specs.Prelude.{◌≤◌};
     ghost use Rattle.job_ends.specs.EachStands.{EachStands};
-    ghost use Rattle.pack_jobs.specs.SplitStands.{split_job};
+    ghost use Rattle.pack_jobs.specs.SplitJob.{split_job};
 
     /// The job over an input of this form, before its first record: pieces of `most` frames. It takes all memory that it
     /// needs.
@@ -80,7 +80,7 @@ impl Make<Item, Cut> for Split {
 
     ghost made = { λ s number r. split_found s.form s.most r r.item.found };
 
-    #[inline]
+    #[inline(always)]
     fn make<O: Sink>(
         &mut self,
         number: u64,

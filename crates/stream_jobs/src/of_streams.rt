@@ -69,7 +69,7 @@ impl<M: MakeStreams> Make<StreamsItem, Cut> for OfStreams<M> {
 
     ghost made = { λ s. made_of s.streams (M.makes s.make) };
 
-    #[inline]
+    #[inline(always)]
     fn make<O: Sink>(
         &mut self,
         number: u64,
