@@ -14,6 +14,7 @@ pub mod LineFoundLemmas
 pub mod RtpmapLemmas
 pub mod AnswerLemmas
 pub mod WriteLemmas
+pub mod SizeLemmas
 pub mod ValueLemmas
 pub mod RowsLemmas
 pub mod PrintedLemmas

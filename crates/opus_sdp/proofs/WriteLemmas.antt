@@ -1,17 +1,13 @@
 -- Parameters that are printed one after another.
-use Rattle.std.proofs.Common.{◌≡◌, ◌<◌, ◌≤◌, ℕ, zero, suc, ◌+◌, List, [], ◌∷◌, ◌++◌, length, get_or, take, take_all, Option, None, Some, Result, Ok, Err, OnOk, append_assoc, append-nil, refl, sym, ap, ◌∙◌, arith}
+use Rattle.std.proofs.Common.{◌≡◌, ◌<◌, ◌≤◌, ℕ, zero, suc, ◌+◌, List, [], ◌∷◌, ◌++◌, length, get_or, take, take_all, Option, None, Some, append_assoc, append-nil, refl, sym, ap, ◌∙◌, arith}
 use Rattle.std.specs.List.{filter_map, zip}
 use Rattle.std.specs.Fmt.{decimal}
 use Rattle.std.proofs.lemmas.List.Elements.{filter_map-append}
 use Rattle.opus_sdp.specs.Table.{Row, row, table, row_at}
 use Rattle.opus_sdp.specs.Printed.{param_text, params_after, row_param}
-use Rattle.opus_sdp.specs.Writing.{Extends, separator_behind}
+use Rattle.opus_sdp.specs.Writing.{separator_behind}
 use Rattle.opus_sdp.specs.declared.param.Param.{Param}
 use Rattle.opus_sdp.proofs.TableLemmas.{length-table}
-
-pub Extends-trans : (a b c text : List ℕ) → b ≡ a ++ text → Extends b c → Extends a c
-Extends-trans a b c text first (more, second) =
-    (text ++ more, second ∙ ap (λ l. l ++ more) first ∙ append_assoc a text more)
 
 -- behind a parameter the next one stands behind `;`
 
@@ -89,11 +85,7 @@ rows-all numbers =
     let short = zip-short table numbers in
     ap (filter_map row_param) (take_all 8 (zip table numbers) (omega arith))
 
--- what follows from a success
-pub OnOk-follows : {T E : Type 0} (result : Result T E) (P Q : Type 0) → (P → Q) → OnOk result P → OnOk result Q
-OnOk-follows (Ok x) P Q follows holds = follows holds
-OnOk-follows (Err e) P Q follows holds = tt
-
+-- what is appended in three parts
 pub three-parts : (old a b c d first second third : List ℕ) → first ≡ old ++ a → second ≡ first ++ b → third ≡ second ++ (c ++ d)
     → third ≡ old ++ ((a ++ (b ++ c)) ++ d)
 three-parts old a b c d first second third is then last =

@@ -8,6 +8,7 @@ pub mod laws;
 mod names;
 mod param;
 mod read;
+mod size;
 mod table;
 #[cfg(test)]
 mod tests;
