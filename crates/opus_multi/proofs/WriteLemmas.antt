@@ -1,5 +1,5 @@
 -- Forms written one after another.
-use Rattle.std.proofs.Common.{◌≡◌, ℕ, zero, suc, ◌+◌, ◌<◌, ◌≤◌, List, [], ◌∷◌, ◌++◌, length, take, map, flat_map, get_or, Result, Ok, Err, OnErr, refl, ap, sym, ◌∙◌, arith, length-append}
+use Rattle.std.proofs.Common.{◌≡◌, ℕ, zero, suc, ◌+◌, ◌<◌, ◌≤◌, List, [], ◌∷◌, ◌++◌, length, take, map, flat_map, get_or, Option, Some, None, IfNone, Result, Ok, Err, OnErr, refl, ap, sym, ◌∙◌, arith, length-append}
 use Rattle.std.specs.Result.{IsOk}
 use Rattle.std.proofs.lemmas.List.{append_assoc}
 use Rattle.opus_packet.specs.Held.{HeldRead}
@@ -51,3 +51,29 @@ pub written : {A B : Type 0} (self whole : B → List ℕ) (h : A → B) (front 
 written self whole h front last parts start mid new are middle ends =
     rw (ends, middle, are, forms_map self whole h (front ++ last ∷ []), forms_push (λ a. self (h a)) (λ a. whole (h a)) front last)
     (append_assoc start (flat_map (λ a. self (h a)) front) (whole (h last)))
+
+-- where a sum of sizes passes a limit, all of them do
+pub sum_past : {A : Type 0} (f : A → List ℕ) (xs : List A) (i : ℕ) (x : A) (sum limit : ℕ) → i < length xs → x ≡ get_or xs i x
+    → sum ≡ length (flat_map f (take i xs)) → limit ≤ sum + length (f x) → limit ≤ length (flat_map f xs)
+sum_past f xs i x sum limit within is told past = omega (arith, told, past, room_at f xs i x within is)
+
+-- a list without room for some bytes has none for forms of as many
+pub past_forms : {A B : Type 0} (self whole : B → List ℕ) (h : A → B) (front : List A) (last : A) (parts : List A) (n cap more : ℕ)
+    → parts ≡ front ++ last ∷ [] → cap < n + more → more ≤ length (flat_map (λ a. self (h a)) front) + length (whole (h last))
+    → cap < n + length (forms self whole (map h parts))
+past_forms self whole h front last parts n cap more are past within =
+    let size : length (forms self whole (map h parts)) ≡ length (flat_map (λ a. self (h a)) front) + length (whole (h last)) =
+    rw (are, forms_map self whole h (front ++ last ∷ []), forms_push (λ a. self (h a)) (λ a. whole (h a)) front last)
+    (length-append (flat_map (λ a. self (h a)) front) (whole (h last))) in
+    omega (arith, past, within, size)
+
+pub none_says : {A P : Type 0} (r : Option A) → P → IfNone r P
+none_says None holds = holds
+none_says (Some x) holds = tt
+
+pub not_below : (sum more size limit : ℕ) → (sum + more < limit → ⊥) → more ≡ size → limit ≤ sum + size
+not_below sum more size limit never is = omega (arith, never, is)
+
+pub err_says : {T E P : Type 0} (r : Result T E) → P → OnErr r P
+err_says (Ok x) holds = tt
+err_says (Err e) holds = holds

@@ -1,5 +1,5 @@
 //! Joining packets to a multistream packet.
-ghost use Rattle.std.specs.Prelude.{◌≡◌, ℕ, [], ◌≤◌, ◌++◌, length, map, OnOk, OnErr, IfErr, IfSome, IfNone, Err};
+ghost use Rattle.std.specs.Prelude.{◌≡◌, ℕ, [], ◌+◌, ◌<◌, ◌≤◌, ◌++◌, length, map, vec_len, vec_capacity, OnOk, OnErr, IfErr, IfSome, IfNone, Err, IsErrOf};
 ghost use Rattle.opus_multi.specs.Durations.{HaveOneDuration, IsUnequalAt};
 ghost use Rattle.opus_multi.specs.Forms.{canonical_multistream};
 ghost use Rattle.opus_multi.specs.Joins.{held_durations, IsJoinFault};
@@ -22,6 +22,9 @@ pub fn join(parts: &[Held], out: &mut Vec<u8>) -> Result<(), JoinFault>
     ensures fault { IfErr result (λ f. IsJoinFault parts.now f) }
     ensures none { parts.now ≡ [] → result ≡ Err NoParts }
     ensures unequal { (k : ℕ) → IsUnequalAt (held_durations parts.now) k → result ≡ Err (Unequal k) }
+    // Memory is wanted only where the list has no room for the form.
+    ensures full { IsErrOf result JoinFault.NoMemory → vec_capacity out.old < vec_len out.old
+        + length (canonical_multistream (map (λ h. h.value) parts.now)) }
 {
     if parts.is_empty() {
         return Err(JoinFault::NoParts);

@@ -1,5 +1,5 @@
 //! The written forms appended to a list.
-ghost use Rattle.std.specs.Prelude.{◌≡◌, ◌+◌, ◌++◌, ◌≤◌, length, map, vec_len, vec_capacity, OnOk, OnErr, IfSome, flat_map};
+ghost use Rattle.std.specs.Prelude.{◌≡◌, ◌+◌, ◌++◌, ◌^◌, ◌<◌, ◌≤◌, length, map, vec_len, vec_capacity, OnOk, OnErr, IfSome, IfNone, flat_map};
 ghost use Rattle.std.specs.List.{AllByRecursion};
 ghost use Rattle.opus_packet.specs.Tail.{kept, IsKept};
 ghost use Rattle.opus_packet.specs.Held.{HeldRead};
@@ -52,6 +52,8 @@ pub fn write_multi(parts: &[Part], out: &mut Vec<u8>) -> Result<(), NoMemory>
     ensures ok { OnOk result (out.new.items
         ≡ out.old.items ++ canonical_multistream (map (λ p. p.held.value) parts.now)) }
     ensures err { OnErr result (out.new.items ≡ out.old.items) }
+    ensures full { OnErr result (vec_capacity out.old < vec_len out.old
+        + length (canonical_multistream (map (λ p. p.held.value) parts.now))) }
 {
     write_canonical(parts, out)
 }
@@ -65,6 +67,8 @@ pub fn write_multi_kept(parts: &[Part], out: &mut Vec<u8>) -> Result<(), NoMemor
     ensures ok { OnOk result (out.new.items
         ≡ out.old.items ++ kept_multistream (map (λ p. p.held) parts.now)) }
     ensures err { OnErr result (out.new.items ≡ out.old.items) }
+    ensures full { OnErr result (vec_capacity out.old < vec_len out.old
+        + length (kept_multistream (map (λ p. p.held) parts.now))) }
 {
     write_forms(parts, Form::KeptSelf, Form::Kept, out)
 }
@@ -74,6 +78,8 @@ pub(crate) fn write_canonical<T: Owns>(parts: &[T], out: &mut Vec<u8>) -> Result
     ensures ok { OnOk result (out.new.items
         ≡ out.old.items ++ canonical_multistream (map (λ p. (T.held p).value) parts.now)) }
     ensures err { OnErr result (out.new.items ≡ out.old.items) }
+    ensures full { OnErr result (vec_capacity out.old < vec_len out.old
+        + length (canonical_multistream (map (λ p. (T.held p).value) parts.now))) }
 {
     write_forms(parts, Form::CanonicalSelf, Form::Canonical, out)
 }
@@ -88,6 +94,8 @@ fn write_forms<T: Owns>(
     ensures ok { OnOk result (out.new.items ≡ out.old.items
         ++ forms (spelled_as self_form) (spelled_as whole_form) (map (λ p. T.held p) parts.now)) }
     ensures err { OnErr result (out.new.items ≡ out.old.items) }
+    ensures full { OnErr result (vec_capacity out.old < vec_len out.old
+        + length (forms (spelled_as self_form) (spelled_as whole_form) (map (λ p. T.held p) parts.now))) }
 {
     let Some((last, front)) = parts.split_last() else {
         return Ok(());
@@ -105,7 +113,8 @@ fn write_forms<T: Owns>(
 
 // Bytes of this form of each.
 fn front_size<T: Owns>(front: &[T], form: Form) -> Option<usize>
-    ensures { IfSome result (λ size. size ≡ length (flat_map (λ p. spelled_as form (T.held p)) front.now)) }
+    ensures some { IfSome result (λ size. size ≡ length (flat_map (λ p. spelled_as form (T.held p)) front.now)) }
+    ensures none { IfNone result (2 ^ 64 ≤ length (flat_map (λ p. spelled_as form (T.held p)) front.now)) }
 {
     let mut size: usize = 0;
     for part in front {
