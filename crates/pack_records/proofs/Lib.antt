@@ -12,3 +12,8 @@ pub mod StoreHeads
 pub mod StorePayloads
 pub mod DemoFronts
 mod DemoFacts
+pub mod StoreOrders
+mod OrderLemmas
+pub mod StoreParts
+pub mod PacketKinds
+mod SomeLemmas
