@@ -4,3 +4,6 @@ pub mod LentLemmas
 pub mod TakenLemmas
 pub mod RawLemmas
 pub mod DemoFronts
+mod StreamKinds
+mod OrderLemmas
+mod SomeLemmas

@@ -33,19 +33,19 @@ stand_sizes (s ∷ ss) bytes rest h =
 -- ---- one record
 
 -- the same streams stand first, and the same one doesn't read
-record IsSameFault (count : ℕ) (bytes : List ℕ) (j k : ℕ) (f g : Fault) (a : IsBroken count bytes j f)
+pub record IsSameFault (count : ℕ) (bytes : List ℕ) (j k : ℕ) (f g : Fault) (a : IsBroken count bytes j f)
     (b : IsBroken count bytes k g) : Type 0 where
-  stream : j ≡ k
-  fault : f ≡ g
-  first : a.first ≡ b.first
-  rest : a.rest ≡ b.rest
+  pub stream : j ≡ k
+  pub fault : f ≡ g
+  pub first : a.first ≡ b.first
+  pub rest : a.rest ≡ b.rest
 
 same_rest : (first other : List SpelledStream) (rest behind : List ℕ) → length first ≡ length other
     → Follows first other rest behind → (first ≡ other) × (rest ≡ behind)
 same_rest first other rest behind same (inl p) = absurd (omega (arith, same, p.0))
 same_rest first other rest behind same (inr p) = p
 
-same_fault : (count : ℕ) (bytes : List ℕ) (j k : ℕ) (f g : Fault) (a : IsBroken count bytes j f)
+pub same_fault : (count : ℕ) (bytes : List ℕ) (j k : ℕ) (f g : Fault) (a : IsBroken count bytes j f)
     (b : IsBroken count bytes k g) → IsSameFault count bytes j k f g a b
 same_fault count bytes j k f g a b =
     let e : Stream j f ≡ Stream k g = fault_once count bytes (Stream j f) (Stream k g) a b in
