@@ -19,6 +19,7 @@ data Rests (rest : List ℕ) : Type 0 where
   no_head : length rest < 8 → Rests rest
   some_head : (range : ℕ) (part : List ℕ) → CutPayload rest range part → Rests rest
 
+-- whole records and a rest that begins with none
 record StoreParts (x : List ℕ) : Type 0 where
   whole : List StoreRecord
   rest : List ℕ
