@@ -1,7 +1,7 @@
 -- What norm wrote is read again: one record.
-use Rattle.std.proofs.Common.{◌≡◌, ℕ, ◌+◌, ◌≤◌, Bool, true, false, nat_le, if◌then◌else◌, List, [], ◌∷◌, ◌++◌, length, map, refl, sym, ap, ◌∙◌, subst, arith}
+use Rattle.std.proofs.Common.{◌≡◌, ℕ, ◌+◌, ◌≤◌, false, List, ◌++◌, length, map, refl, sym, ap, ◌∙◌, subst, arith}
 use Rattle.std.specs.List.{concat}
-use Rattle.std.proofs.lemmas.Bool.{leb-true, le-ltb}
+use Rattle.std.proofs.lemmas.Bool.{le-ltb}
 use Rattle.job_loop.specs.Shown.{Shown}
 use Rattle.opus_packet.specs.declared.shape.Shape.{Shape}
 use Rattle.opus_packet.specs.Value.{PacketValue, IsPacketValue}
@@ -9,7 +9,7 @@ use Rattle.opus_packet.specs.PacketPrefix.{AreBytes}
 use Rattle.opus_packet.specs.PacketGrammar.{IsPacket, header_for}
 use Rattle.opus_packet.specs.SelfGrammar.{IsSelfDelimited, self_header_bytes}
 use Rattle.opus_packet.specs.Header.{header_bytes, padding_data}
-use Rattle.opus_packet.specs.Tail.{kept, counted, kept_bytes, max_tail}
+use Rattle.opus_packet.specs.Tail.{max_tail}
 use Rattle.opus_packet.specs.Canonical.{keep_shape}
 use Rattle.opus_packet.proofs.BytesLemmas.{AreBytes-left, AreBytes-right}
 use Rattle.opus_writer.proofs.KeptLemmas.{kept-is_packet, kept_self-is_packet}
@@ -17,7 +17,6 @@ use Rattle.opus_feed.specs.declared.framing.Framing.{Framing}
 use Rattle.opus_feed.specs.declared.framing.Framing.TheVariants.{Whole, SelfDelimited}
 use Rattle.opus_feed.specs.declared.padding.Padding.{Padding}
 use Rattle.opus_feed.specs.declared.padding.Padding.TheVariants.{Drop, Keep}
-use Rattle.opus_feed.specs.Tails.{tail_kept}
 use Rattle.pack_records.specs.declared.item.Found.TheVariants.{Packet}
 use Rattle.pack_records.specs.declared.item.Item.{Item}
 use Rattle.pack_records.specs.Fits.{form_of}

@@ -28,7 +28,7 @@ each-kind : (v : PacketValue) (ws : List PacketValue) (w : PacketValue) → AllB
 each-kind v [] w each same = (same, tt)
 each-kind v (u ∷ ws) w each same = (each.0, each-kind v ws w each.1 same)
 
-merged-joined : (v : PacketValue) (ws : List PacketValue) (w : PacketValue)
+pub merged-joined : (v : PacketValue) (ws : List PacketValue) (w : PacketValue)
     → joined (merged_with v ws) w ≡ merged_with v (ws ++ w ∷ [])
 merged-joined v ws w =
     ap (λ fs. record { config = v.config; stereo = v.stereo; frames = fs })

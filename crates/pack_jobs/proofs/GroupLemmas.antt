@@ -58,7 +58,7 @@ last-more [] r = refl
 last-more (s ∷ []) r = refl
 last-more (s ∷ t ∷ rs) r = last-more (t ∷ rs) r
 
-length-more : (rs : List (Shown Item)) (r : Shown Item) → length (rs ++ r ∷ []) ≡ length rs + 1
+pub length-more : (rs : List (Shown Item)) (r : Shown Item) → length (rs ++ r ∷ []) ≡ length rs + 1
 length-more rs r = length-append rs (r ∷ [])
 
 pub at-more : (most : Option ℕ) (rs : List (Shown Item)) (r : Shown Item) (v : PacketValue)
@@ -73,13 +73,13 @@ at-more most rs r v is =
     (last-more rs r)
 
 -- it takes no more exactly where it has all packets that it may have
-full-is : (most : Option ℕ) (n : ℕ) → takes_none (option_map (λ k. k - n) most) ≡ true → IfSome most (λ k. n ≤ k)
+pub full-is : (most : Option ℕ) (n : ℕ) → takes_none (option_map (λ k. k - n) most) ≡ true → IfSome most (λ k. n ≤ k)
     → most ≡ Some n
 full-is None n full within = absurd cc
 full-is (Some k) n full within =
     let none = eqb-true (k - n) 0 full in ap (λ l. Some l) (omega arith)
 
-open-is : (most : Option ℕ) (n : ℕ) → takes_none (option_map (λ k. k - n) most) ≡ false → IfSome most (λ k. n ≤ k)
+pub open-is : (most : Option ℕ) (n : ℕ) → takes_none (option_map (λ k. k - n) most) ≡ false → IfSome most (λ k. n ≤ k)
     → IfSome most (λ k. n < k)
 open-is None n held within = tt
 open-is (Some k) n held within = let some = eqb-false (k - n) 0 held in omega (arith, some, within)
@@ -146,11 +146,11 @@ each-more (s ∷ rs) r each is = (each.0, each-more rs r each.1 is)
 
 -- ---- runs
 
-abbrev ended : Form → Option ℕ → Run MergeKept Refusal → List (Shown Item) → Run (Unit {0}) Refusal
+abbrev pub ended : Form → Option ℕ → Run MergeKept Refusal → List (Shown Item) → Run (Unit {0}) Refusal
 ended form most run rs = closes (merge form most) Closed (runs (merge form most) run rs)
 
 -- the run with an open group of these packets
-abbrev stood : Option ℕ → List ℕ → ℕ → List (Shown Item) → Run MergeKept Refusal
+abbrev pub stood : Option ℕ → List ℕ → ℕ → List (Shown Item) → Run MergeKept Refusal
 stood most text count held = going text (kept_of count (at most held))
 
 -- this is written behind a text for the open group and the records

@@ -9,12 +9,14 @@ pub mod SplitLemmas
 pub mod MergeLemmas
 pub mod GroupKinds
 pub mod GroupLemmas
+pub mod GroupRuns
 pub mod GroupFrames
 pub mod NormLemmas
 pub mod CheckLemmas
 pub mod SameLemmas
 pub mod FormBytes
 pub mod KeptBytes
+pub mod HeldLemmas
 pub mod StoreBytes
 pub mod AgainLemmas
 pub mod InputsAgain

@@ -1,6 +1,6 @@
 //! Laws on the jobs over packets: each is the contract of a function that does nothing.
 ghost use Rattle.std.specs.List.{AllByRecursion};
-ghost use Rattle.std.specs.Prelude.{◌≡◌, ◌≢◌, ◌↔◌, ◌≤◌, ◌<◌, ◌^◌, ℕ, List, [], ◌∷◌, ◌++◌, Option, Some, None, IfSome, length, flat_map};
+ghost use Rattle.std.specs.Prelude.{◌≡◌, ◌≢◌, ◌↔◌, ◌≤◌, ◌<◌, ◌^◌, ℕ, false, List, [], ◌∷◌, ◌++◌, Option, Some, None, IfSome, length, flat_map};
 ghost use Rattle.job_loop.specs.Shown.{Shown};
 ghost use Rattle.job_loop.specs.Meaning.{going, broke, outcome, run_text};
 ghost use Rattle.job_loop.specs.declared.input_end.InputEnd.{InputEnd};
@@ -10,16 +10,18 @@ ghost use Rattle.opus_packet.specs.Tail.{max_tail};
 ghost use Rattle.opus_repack.specs.Joined.{IsSameKind};
 ghost use Rattle.opus_feed.specs.declared.framing.Framing.{Framing};
 ghost use Rattle.opus_feed.specs.declared.padding.Padding.{Padding};
+ghost use Rattle.opus_feed.specs.declared.padding.Padding.TheVariants.{Drop, Keep};
 ghost use Rattle.opus_words.specs.declared.form.Form.{Form};
 ghost use Rattle.opus_words.specs.declared.form.Form.TheVariants.{SelfDelimited};
 ghost use Rattle.pack_records.specs.declared.cut.Cut.{Cut};
 ghost use Rattle.pack_records.specs.declared.item.Item.{Item};
 ghost use Rattle.pack_records.specs.Fits.{form_of};
+ghost use Rattle.pack_records.specs.Holds.{HoldsPacket};
 ghost use Rattle.pack_jobs.specs.declared.refusal.Why.{Why};
 ghost use Rattle.pack_jobs.specs.declared.refusal.Why.TheVariants.{StoreCut};
 ghost use Rattle.pack_jobs.specs.Refusal.{Refusal};
 ghost use Rattle.job_ends.specs.Refusal.{told, refusal_of};
-ghost use Rattle.pack_jobs.specs.Norm.{norm};
+ghost use Rattle.pack_jobs.specs.Norm.{is_long, norm};
 ghost use Rattle.pack_jobs.specs.Check.{check};
 ghost use Rattle.pack_jobs.specs.Written.{normal_record, AreTaken, FirstRefused, AreGood, FirstBad, lines_from};
 ghost use Rattle.job_ends.specs.Each.{IsUncut, Made, texts_from, AreWritten, FirstRefusedBy};
@@ -119,11 +121,11 @@ pub fn pieces_keep_all_frames()
 
 /// What merge writes is the records in groups, cut at each lost record and behind every so many packets: each group as
 /// one packet with the range of its last record, and each lost record as it is. The packets of a group have one kind, and
-/// last at most 120 ms.
+/// last at most 120 ms. Nothing is refused exactly where the records are such groups.
 pub fn merge_writes_each_group_as_one_packet()
     ensures written { (form : Form) (most : Option ℕ) (rs : List (Shown Item)) (text : List ℕ)
-        → IfSome most (λ n. 1 ≤ n) → AreLent rs → outcome (merge form most) rs ends.Closed ≡ going text tt
-        → (parts : List Part) × IsCutInto most rs parts × CanAllMerge parts × (text ≡ texts_of form parts) }
+        → IfSome most (λ n. 1 ≤ n) → AreLent rs → (outcome (merge form most) rs ends.Closed ≡ going text tt)
+        ↔ ((parts : List Part) × IsCutInto most rs parts × CanAllMerge parts × (text ≡ texts_of form parts)) }
 {}
 
 /// No frame is lost where records are merged: the groups have all frames of the records, in order.
@@ -133,7 +135,8 @@ pub fn groups_keep_all_frames()
 {}
 
 /// Two inputs that norm takes have one output exactly where their records agree one by one: in range, in what is lost,
-/// and in kept form, which is that of one value with one list of kept padding bytes.
+/// and in kept form, which is that of one value with one list of kept padding bytes. All inputs that norm takes have such
+/// records. Where padding bytes are kept, all of a packet that norm takes are, and where they are dropped, none.
 pub fn norm_keeps_the_records_alone()
     ensures same { (form : Form) (p q : Padding) (rs ss : List (Shown Item)) (c d : InputEnd Cut)
         (a b : List ℕ) → AreRecordsOf form rs → AreRecordsOf form ss
@@ -142,6 +145,14 @@ pub fn norm_keeps_the_records_alone()
     ensures forms { (framing : Framing) (v w : PacketValue) (tail rest : List ℕ)
         → IsPacketValue v → IsPacketValue w → length tail ≤ max_tail → length rest ≤ max_tail
         → (form_of framing v tail ≡ form_of framing w rest) ↔ ((v ≡ w) × (tail ≡ rest)) }
+    ensures records { (form : Form) (padding : Padding) (x : List ℕ) (rs : List (Shown Item)) (cut : Option Cut)
+        (end : InputEnd Cut) (text : List ℕ) → ends_in form padding x rs cut
+        → outcome (norm form padding) rs end ≡ going text tt → AreRecordsOf form rs }
+    ensures kept { (framing : Framing) (start range : ℕ) (bytes : List ℕ) (r : Shown Item)
+        (holds : HoldsPacket Keep framing start range bytes r) → is_long Keep holds.shape ≡ false
+        → r.bytes ≡ form_of framing holds.value holds.tail }
+    ensures dropped { (framing : Framing) (start range : ℕ) (bytes : List ℕ) (r : Shown Item)
+        (holds : HoldsPacket Drop framing start range bytes r) → r.bytes ≡ form_of framing holds.value [] }
 {}
 
 /// What norm wrote of a whole input is a whole input of the same form, with records that agree with those one by one,
