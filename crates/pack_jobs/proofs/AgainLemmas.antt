@@ -1,5 +1,5 @@
 -- What norm wrote is read again: one record.
-use Rattle.std.proofs.Common.{◌≡◌, ℕ, ◌+◌, ◌≤◌, false, List, ◌++◌, length, map, refl, sym, ap, ◌∙◌, subst, arith}
+use Rattle.std.proofs.Common.{◌≡◌, ℕ, ◌≤◌, false, List, ◌++◌, length, map, refl, sym, ap, subst, arith}
 use Rattle.std.specs.List.{concat}
 use Rattle.std.proofs.lemmas.Bool.{le-ltb}
 use Rattle.job_loop.specs.Shown.{Shown}
@@ -17,13 +17,11 @@ use Rattle.opus_feed.specs.declared.framing.Framing.{Framing}
 use Rattle.opus_feed.specs.declared.framing.Framing.TheVariants.{Whole, SelfDelimited}
 use Rattle.opus_feed.specs.declared.padding.Padding.{Padding}
 use Rattle.opus_feed.specs.declared.padding.Padding.TheVariants.{Drop, Keep}
-use Rattle.pack_records.specs.declared.item.Found.TheVariants.{Packet}
 use Rattle.pack_records.specs.declared.item.Item.{Item}
 use Rattle.pack_records.specs.Fits.{form_of}
-use Rattle.pack_records.specs.Holds.{Reads, record_of, HoldsPacket}
+use Rattle.pack_records.specs.Holds.{Reads, HoldsPacket}
 use Rattle.pack_jobs.specs.Norm.{is_long}
 use Rattle.pack_jobs.specs.Written.{payload_of}
-use Rattle.pack_jobs.specs.SameRecords.{IsSameFound, IsSameRecord}
 use Rattle.pack_jobs.proofs.KeptBytes.{kept_of, kept_again, kept_small, kept_are}
 use Rattle.pack_jobs.proofs.FormBytes.{form-are}
 
@@ -43,7 +41,7 @@ pub record IsOwn (v : PacketValue) (tail : List ℕ) : Type 0 where
   pub frames : AreBytes (concat v.frames)
   pub padding : AreBytes tail
 
-own : (framing : Framing) (v : PacketValue) (shape : Shape) (tail bytes : List ℕ) → Reads framing v shape tail bytes
+pub own : (framing : Framing) (v : PacketValue) (shape : Shape) (tail bytes : List ℕ) → Reads framing v shape tail bytes
     → AreBytes bytes → IsOwn v tail
 own Whole v shape tail bytes is are =
     let all = subst AreBytes is.spelled are in
@@ -79,32 +77,17 @@ packet_again padding framing start range bytes r holds are =
       are = subst AreBytes (sym is) (form-are framing holds.value tail parts.value parts.frames (kept_are padding holds.tail parts.padding));
     }
 
--- the record that is read again
+-- the shape that is read again
 
 abbrev pub shape_again : {padding : Padding} {framing : Framing} {b : List ℕ} → IsAgain padding framing b → Shape
 shape_again a = keep_shape (map length a.value.frames) (length a.tail)
 
-abbrev pub record_again : {padding : Padding} {framing : Framing} {b : List ℕ} → IsAgain padding framing b → ℕ → ℕ → Shown Item
-record_again {framing} {b} a start range =
-    record_of start (start + length b) range (Packet framing (shape_again a) (length b)) b
-
-reads_again : (padding : Padding) (framing : Framing) (b : List ℕ) (a : IsAgain padding framing b)
+pub reads_again : (padding : Padding) (framing : Framing) (b : List ℕ) (a : IsAgain padding framing b)
     → Reads framing a.value (shape_again a) a.tail b
 reads_again padding Whole b a =
     subst (λ l. IsPacket a.value (shape_again a) a.tail l) (sym a.bytes_are) (kept-is_packet a.value a.tail a.is_value a.small)
 reads_again padding SelfDelimited b a =
     subst (λ l. IsSelfDelimited a.value (shape_again a) a.tail l) (sym a.bytes_are) (kept_self-is_packet a.value a.tail a.is_value a.small)
-
-pub holds_again : (padding : Padding) (framing : Framing) (b : List ℕ) (a : IsAgain padding framing b) (start range : ℕ)
-    → HoldsPacket padding framing start range b (record_again a start range)
-holds_again padding framing b a start range = record {
-  value = a.value;
-  shape = shape_again a;
-  tail = a.tail;
-  reads = reads_again padding framing b a;
-  shows = ap (record_of start (start + length b) range (Packet framing (shape_again a) (length b)))
-      (a.bytes_are ∙ ap (form_of framing a.value) (sym a.again));
-}
 
 data_again : (padding : Padding) (framing : Framing) (b : List ℕ) (a : IsAgain padding framing b)
     → length a.tail ≡ padding_data (shape_again a).pad
@@ -116,16 +99,6 @@ pub taken_again : (padding : Padding) (framing : Framing) (b : List ℕ) (a : Is
 taken_again Drop framing b a = refl
 taken_again Keep framing b a =
     le-ltb max_tail (padding_data (shape_again a).pad) (omega (arith, data_again Keep framing b a, a.small))
-
-pub same_again : (padding : Padding) (framing : Framing) (start at range : ℕ) (bytes : List ℕ) (r : Shown Item)
-    (holds : HoldsPacket padding framing start range bytes r) (a : IsAgain padding framing r.bytes)
-    → IsSameRecord r (record_again a at range)
-same_again padding framing start at range bytes r holds a =
-    let found : r.item.found ≡ Packet framing holds.shape (length bytes) = ap (λ (s : Shown Item). s.item.found) holds.shows in
-    record {
-      range = ap (λ (s : Shown Item). s.item.range) holds.shows;
-      found = subst (λ f. IsSameFound f r.bytes (Packet framing (shape_again a) (length r.bytes)) r.bytes) (sym found) refl;
-    }
 
 pub payload_again : (padding : Padding) (framing : Framing) (start range : ℕ) (bytes : List ℕ) (r : Shown Item)
     → HoldsPacket padding framing start range bytes r → payload_of r.item.found r.bytes ≡ r.bytes

@@ -10,7 +10,7 @@ use Rattle.opus_packet.specs.Value.{PacketValue, IsPacketValue, max_frame}
 use Rattle.opus_packet.specs.PacketPrefix.{AreBytes}
 use Rattle.opus_packet.specs.Header.{equal, given, header_bytes, given_lengths, padding_length, count_and_padding, frame_count, count_byte}
 use Rattle.opus_packet.specs.HeaderRead.{shape_of}
-use Rattle.opus_packet.specs.PacketGrammar.{header_for}
+use Rattle.opus_packet.specs.PacketGrammar.{SuitsCode, header_for, IsPacket}
 use Rattle.opus_packet.specs.SelfGrammar.{last_length}
 use Rattle.opus_packet.specs.Canonical.{canonical_shape, keep_shape}
 use Rattle.opus_packet.proofs.BytesLemmas.{AreBytes-append}
@@ -88,7 +88,7 @@ toc_most : (b : Bool) (config code : ℕ) → config < 32 → code ≤ 3 → 8 *
 toc_most true config code fits most = omega arith
 toc_most false config code fits most = omega arith
 
-header-are : (v : PacketValue) (shape : Shape) → IsPacketValue v → shape.code ≤ 3 → AreBytes (header_bytes (header_for v shape))
+pub header-are : (v : PacketValue) (shape : Shape) → IsPacketValue v → shape.code ≤ 3 → AreBytes (header_bytes (header_for v shape))
 unfolding header_bytes
 header-are v shape is code =
     let ns = map length v.frames in
@@ -126,4 +126,23 @@ form-are SelfDelimited v tail is frames padding =
     (AreBytes-append (header ++ last) (concat v.frames)
     (AreBytes-append header last (header-are v shape is (keep-code (map length v.frames) (length tail)))
     (length-are (last_length (map length v.frames)) (last_most (map length v.frames) (lengths-each v.frames is.each)))) frames)
+    padding)
+
+-- a packet in any shape
+
+suits-code : (code : ℕ) (vbr : Bool) (pad : ℕ) (frames : List (List ℕ)) → SuitsCode code vbr pad frames → code ≤ 3
+suits-code zero vbr pad frames suits = omega arith
+suits-code (suc zero) vbr pad frames suits = omega arith
+suits-code (suc (suc zero)) vbr pad frames suits = omega arith
+suits-code (suc (suc (suc zero))) vbr pad frames suits = omega arith
+suits-code (suc (suc (suc (suc code)))) vbr pad frames suits = absurd suits
+
+pub packet-are : (v : PacketValue) (shape : Shape) (tail bytes : List ℕ) → IsPacket v shape tail bytes
+    → AreBytes (concat v.frames) → AreBytes tail → AreBytes bytes
+packet-are v shape tail bytes is frames padding =
+    let header = header_bytes (header_for v shape) in
+    subst AreBytes (sym is.spelled)
+    (AreBytes-append (header ++ concat v.frames) tail
+    (AreBytes-append header (concat v.frames)
+    (header-are v shape is.value (suits-code shape.code shape.vbr shape.pad v.frames is.suits)) frames)
     padding)

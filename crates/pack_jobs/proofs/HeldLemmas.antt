@@ -171,7 +171,7 @@ all_held form padding [] good are = tt
 all_held form padding (r ∷ rs) good are =
     (good_held form padding r good.0 are.0, all_held form padding rs good.1 are.1)
 
-reads-value : (framing : Framing) (v : PacketValue) (shape : Shape) (tail bytes : List ℕ)
+pub reads-value : (framing : Framing) (v : PacketValue) (shape : Shape) (tail bytes : List ℕ)
     → Reads framing v shape tail bytes → IsPacketValue v
 reads-value Whole v shape tail bytes reads = reads.value
 reads-value Delimited v shape tail bytes reads = reads.value

@@ -19,7 +19,12 @@ pub mod KeptBytes
 pub mod HeldLemmas
 pub mod StoreBytes
 pub mod AgainLemmas
-pub mod InputsAgain
-pub mod StoresAgain
+pub mod WrittenAgain
+pub mod NormAgain
+pub mod FramesAgain
+pub mod HeldFrames
+pub mod MergeAgain
+pub mod SplitAgain
+pub mod PadAgain
 pub mod PackLemmas
 mod StandardFacts

@@ -12,7 +12,7 @@ ghost use Rattle.opus_feed.specs.declared.framing.Framing.{Framing};
 ghost use Rattle.opus_feed.specs.declared.padding.Padding.{Padding};
 ghost use Rattle.opus_feed.specs.declared.padding.Padding.TheVariants.{Drop, Keep};
 ghost use Rattle.opus_words.specs.declared.form.Form.{Form};
-ghost use Rattle.opus_words.specs.declared.form.Form.TheVariants.{SelfDelimited};
+ghost use Rattle.opus_words.specs.declared.form.Form.TheVariants.{Raw, SelfDelimited};
 ghost use Rattle.pack_records.specs.declared.cut.Cut.{Cut};
 ghost use Rattle.pack_records.specs.declared.item.Item.{Item};
 ghost use Rattle.pack_records.specs.Fits.{form_of};
@@ -30,6 +30,7 @@ ghost use Rattle.pack_jobs.specs.Each.{each};
 ghost use Rattle.pack_jobs.specs.Show.{show, shown_from};
 ghost use Rattle.pack_jobs.specs.Split.{pieces, split_record, split, HasFullPieces};
 ghost use Rattle.pack_jobs.specs.Merge.{merge};
+ghost use Rattle.pack_jobs.specs.Pad.{pad};
 ghost use Rattle.pack_jobs.specs.Groups.{Part, IsCutInto, CanAllMerge, values_of, frames_of, texts_of, part_frames, AreLent};
 ghost use Rattle.pack_jobs.specs.PackEnds.{ends_in};
 ghost use Rattle.pack_jobs.specs.Again.{IsReadAgain};
@@ -132,6 +133,23 @@ pub fn merge_writes_each_group_as_one_packet()
 pub fn groups_keep_all_frames()
     ensures frames { (most : Option ℕ) (rs : List (Shown Item)) (parts : List Part) → IsCutInto most rs parts
         → flat_map part_frames parts ≡ frames_of (values_of rs) }
+{}
+
+/// No frame is lost on the way through the program: what merge, split and pad wrote of a whole input is a whole input of
+/// the same form, and its packets have all frames of the packets before, in order.
+pub fn what_is_written_has_all_frames()
+    ensures merge { (form : Form) (most : Option ℕ) (x : List ℕ) (rs : List (Shown Item)) (text : List ℕ)
+        → form ≢ Raw → IfSome most (λ n. 1 ≤ n) → ends_in form Drop x rs None
+        → outcome (merge form most) rs ends.Closed ≡ going text tt → (ss : List (Shown Item))
+        × ends_in form Drop text ss None × (frames_of (values_of ss) ≡ frames_of (values_of rs)) }
+    ensures split { (form : Form) (most : ℕ) (x : List ℕ) (rs : List (Shown Item)) (text : List ℕ)
+        → form ≢ Raw → 1 ≤ most → ends_in form Drop x rs None
+        → outcome (split form most) rs ends.Closed ≡ going text tt → (ss : List (Shown Item))
+        × ends_in form Drop text ss None × (frames_of (values_of ss) ≡ frames_of (values_of rs)) }
+    ensures pad { (form : Form) (size : ℕ) (x : List ℕ) (rs : List (Shown Item)) (text : List ℕ)
+        → form ≢ SelfDelimited → ends_in form Drop x rs None
+        → outcome (pad form size) rs ends.Closed ≡ going text tt → (ss : List (Shown Item))
+        × ends_in form Drop text ss None × (frames_of (values_of ss) ≡ frames_of (values_of rs)) }
 {}
 
 /// Two inputs that norm takes have one output exactly where their records agree one by one: in range, in what is lost,

@@ -1,4 +1,4 @@
-use Rattle.pack_jobs.proofs.StoresAgain.{norm_again}
+use Rattle.pack_jobs.proofs.NormAgain.{norm_again}
 use Rattle.pack_jobs.proofs.laws.norm_leaves_what_it_wrote.Goals as goal
 
 pub returns : goal.returns
