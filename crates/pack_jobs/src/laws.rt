@@ -135,8 +135,8 @@ pub fn groups_keep_all_frames()
         → flat_map part_frames parts ≡ frames_of (values_of rs) }
 {}
 
-/// No frame is lost on the way through the program: what merge, split and pad wrote of a whole input is a whole input of
-/// the same form, and its packets have all frames of the packets before, in order.
+/// No frame is lost: what merge and split wrote of a whole input of several records, and pad of one packet or a store, is a
+/// whole input of the same form, and its packets have all frames of the packets before, in order.
 pub fn what_is_written_has_all_frames()
     ensures merge { (form : Form) (most : Option ℕ) (x : List ℕ) (rs : List (Shown Item)) (text : List ℕ)
         → form ≢ Raw → IfSome most (λ n. 1 ≤ n) → ends_in form Drop x rs None
