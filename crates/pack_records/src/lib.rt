@@ -9,6 +9,7 @@ mod cut;
 mod demo;
 #[cfg(test)]
 mod demo_tests;
+mod first;
 mod form;
 mod framed;
 mod item;

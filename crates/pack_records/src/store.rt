@@ -1,13 +1,11 @@
 //! A store of heads and payloads (`opus_demo`) as an input, whatever reads a payload.
 ghost use Rattle.std.specs.Prelude.{◌≡◌, ◌↔◌, ℕ, ◌+◌, ◌-◌, ◌<◌, ◌≤◌, List, [], true, false, length, take, drop};
 ghost use Rattle.opus_io.specs.Reader.{max_input};
-ghost use Rattle.std.specs.Int.{w32, to_be_bytes};
-ghost use Rattle.rec_store.specs.DemoStore.{demo_head};
 
 use crate::cut::Cut;
+use crate::first::head_of;
 use crate::payload::PayloadReader;
 use arrayvec::ArrayVec;
-use byteorder::{BigEndian, ByteOrder};
 use job_loop::{Close, Fed, Form, Lent};
 use opus_io::NoMemory;
 use rec_store::DemoHead;
@@ -285,25 +283,4 @@ impl<P: PayloadReader> Form for Store<P> {
     ghost ends_grow = { λ l. store_ends_grow (P.reads.shows l) P.reads.place (P.lawful.showing l) };
 
     ghost ends_once = { λ l. store_ends_once (P.reads.shows l) P.reads.place (P.lawful.showing l) };
-}
-
-// The head that eight bytes spell.
-#[inline(always)]
-fn head_of(bytes: &[u8]) -> DemoHead
-    requires { length bytes.now ≡ 8 }
-    ensures { demo_head result.len result.range ≡ bytes.now }
-{
-    DemoHead {
-        len: read_number(&bytes[..4]),
-        range: read_number(&bytes[4..]),
-    }
-}
-
-// The number that four bytes spell.
-#[inline(always)]
-fn read_number(bytes: &[u8]) -> u32
-    requires { length bytes.now ≡ 4 }
-    ensures { to_be_bytes w32 result ≡ bytes.now }
-{
-    BigEndian::read_u32(bytes)
 }
