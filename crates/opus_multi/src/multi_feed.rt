@@ -52,6 +52,7 @@ impl MultiFeed {
         ensures streams { IfOk result (λ m. m.streams ≡ streams) }
         ensures padding { IfOk result (λ m. m.feed.padding ≡ padding) }
         ensures room { IfOk result (λ m. room_in m.feed ≡ memory_of padding) }
+        ensures parts { IfOk result (λ m. vec_capacity m.parts ≡ streams) }
     {
         Ok(MultiFeed {
             alloc,
