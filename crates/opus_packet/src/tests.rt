@@ -1,6 +1,5 @@
 //! Packets with their answers.
-use crate::{Held, Packet, Rule, Shape, Tail, decode};
-use opus_toc::Toc;
+use crate::{Held, Packet, Rule, Tail, decode};
 use std::alloc::Global;
 use std::process::Abort;
 use std::test::Fail;
@@ -267,30 +266,6 @@ fn spelled_lengths_are_told(rt: HostRuntime) -> Result<(), Fail> {
         assert_eq!(rt; packet.lens().spelled(), want);
         let held = Held::copy(rt.alloc(), &packet)?;
         assert_eq!(rt; held.view().lens().spelled(), None);
-    }
-    Ok(())
-}
-
-// A code 2 packet of two frames, and the same frames in the canonical spelling, which is code 2 too.
-#[test]
-fn parts_and_frames_make_their_packet(rt: HostRuntime) -> Result<(), Fail> {
-    let whole = decode(&[0xFA, 1, 0xAA, 0xBB, 0xCC])?;
-    let shape = Shape {
-        code: 2,
-        vbr: false,
-        pad: 0,
-    };
-    let body = [0xAA, 0xBB, 0xCC];
-    let none = Tail::Bytes(&[]);
-    let parts = Packet::of_parts(Toc::new(31, false, 2), shape, 5, &body, &[1, 2], none);
-    let frames = Packet::of_frames(31, false, &body, &[1, 2]);
-    for packet in [&whole, &parts, &frames] {
-        assert_eq!(rt; spelling(packet), (2, false, 0, 5));
-        assert_eq!(rt; packet.count(), 2);
-        assert_eq!(rt; packet.frame(0), &body[..1]);
-        assert_eq!(rt; packet.frame(1), &body[1..]);
-        assert!(rt; tail_is(packet, &[]));
-        assert!(rt; packet.same_kind(&whole));
     }
     Ok(())
 }
