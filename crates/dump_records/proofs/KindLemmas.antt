@@ -9,7 +9,8 @@ use Rattle.rec_store.specs.DumpItem.{IsOwnLength}
 use Rattle.rec_store.specs.DumpLine.{IsOneLine, IsDumpLine, IsBadLine, IsLinePart}
 use Rattle.rec_store.specs.DumpStore.{AreBytes, IsDumpOpening, IsOpeningPart, IsRecordPart, HasShortLength}
 use Rattle.rec_store.specs.declared.dump_opening.DumpHead.{DumpHead}
-use Rattle.rec_store.proofs.ByteLemmas.{AreBytes-take, AreBytes-drop, short_of}
+use Rattle.opus_io.proofs.BytesLemmas.{AreBytes-take, AreBytes-drop}
+use Rattle.rec_store.proofs.ByteLemmas.{short_of}
 use Rattle.rec_store.proofs.PartLemmas.{dump_head-of, opening_part-head, opening_part-line, record-of, record_part-of, record_part-one, record_part-nil}
 
 AreBytes-behind : (xs ys : List ℕ) → AreBytes (xs ++ ys) → AreBytes ys

@@ -10,7 +10,7 @@ use Rattle.rec_store.specs.DumpItem.{TellsRecord}
 use Rattle.rec_store.specs.DumpStore.{AreBytes, IsDumpOpening}
 use Rattle.rec_store.specs.declared.dump_item.DumpItem.{DumpItem}
 use Rattle.rec_store.specs.declared.stop.StoreFault.TheVariants.{DumpLength}
-use Rattle.rec_store.proofs.ByteLemmas.{AreBytes-append}
+use Rattle.opus_io.proofs.BytesLemmas.{AreBytes-append}
 use Rattle.rec_store.proofs.ItemLemmas.{packet-taken}
 use Rattle.rec_store.proofs.PartLemmas.{dump_head-of}
 use Rattle.rec_store.proofs.RecordLemmas.{length-dump_record, short-longer}

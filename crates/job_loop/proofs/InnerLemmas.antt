@@ -15,7 +15,7 @@ append_nothing : (a : Option (List ℕ)) (held : List ℕ) → held ≡ [] → a
 append_nothing None held none = refl
 append_nothing (Some xs) held none = ap Some (ap (λ l. xs ++ l) none ∙ append-nil xs)
 
-appends_inner : (a b : Option (List ℕ)) (held held' text : List ℕ) → held ≡ [] → held' ≡ []
+pub appends_inner : (a b : Option (List ℕ)) (held held' text : List ℕ) → held ≡ [] → held' ≡ []
     → Appends (append_known a held) (append_known b held') text → Appends a b text
 appends_inner a b held held' text none none' all =
     subst (λ a. Appends a b text) (append_nothing a held none)
@@ -41,7 +41,7 @@ front_grown text (Some xs) (Some ys) held grew front = record {
   written = handed_front text xs ys held grew.0 front.count front.written grew.1;
 }
 
-front_inner : (text : List ℕ) (a b : Option (List ℕ)) (held held' : List ℕ) → held ≡ [] → Grew a b
+pub front_inner : (text : List ℕ) (a b : Option (List ℕ)) (held held' : List ℕ) → held ≡ [] → Grew a b
     → Front text (append_known a held) (append_known b held') → Front text a b
 front_inner text a b held held' none grew front =
     front_grown text a b held' grew

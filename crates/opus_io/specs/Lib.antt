@@ -7,3 +7,4 @@ pub mod Steady
 pub mod Reader
 pub mod Memory
 pub mod Outside
+pub mod Bytes

@@ -1,7 +1,7 @@
 -- What can still become an undelimited packet. The definition is arithmetic on what the header says so
 -- far; a law in src/laws.rt says that it means: some continuation is a packet.
 use Rattle.std.specs.Prelude.{ℕ, ◌+◌, ◌<◌, ◌≤◌, List, ◌++◌, length}
-use Rattle.std.specs.List.{AllByRecursion}
+pub use Rattle.opus_io.specs.Bytes.{AreBytes}
 use Rattle.opus_packet.specs.Value.{max_frame}
 use Rattle.opus_packet.specs.Header.{Header, header_bytes, body_size, padding_data}
 use Rattle.opus_packet.specs.HeaderRead.{HeaderRead, whole, partial, refused, header_read}
@@ -21,10 +21,6 @@ CanBecome (refused rule place) size = ⊥
 -- the bytes can become a packet
 abbrev pub IsPacketPrefix : List ℕ → Type 0
 IsPacketPrefix bytes = CanBecome (header_read bytes) (length bytes)
-
--- all are bytes
-abbrev pub AreBytes : List ℕ → Type 0
-AreBytes bytes = AllByRecursion (λ byte. byte < 256) bytes
 
 -- some continuation is a packet
 abbrev pub BecomesPacket : List ℕ → Type 0

@@ -6,7 +6,7 @@ use Rattle.std.specs.List.{AllByRecursion}
 use Rattle.rec_store.specs.DemoStore.{demo_head, demo_record, NoWholeRecord}
 use Rattle.rec_store.specs.DemoCut.{DemoValue, IsDemoValue, demo_records, IsDemoStore, IsDemoCut, IsWithinRecord}
 use Rattle.rec_store.specs.DumpStore.{AreBytes}
-use Rattle.rec_store.proofs.ByteLemmas.{AreBytes-append, AreBytes-drop, AreBytes-zeros}
+use Rattle.opus_io.proofs.BytesLemmas.{AreBytes-append, AreBytes-drop, AreBytes-zeros}
 use Rattle.rec_store.proofs.DemoLemmas.{fronts_same, demo_record-front, length-demo_record, demo_record-whole, demo_head-of}
 
 abbrev bytes_of : DemoValue → List ℕ

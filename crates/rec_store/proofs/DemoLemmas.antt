@@ -9,7 +9,8 @@ use Rattle.std.specs.Int.{w32, to_be_bytes, from_be_bytes}
 use Rattle.std.specs.Io.KnownBytes.{Consumes, Keeps}
 use Rattle.opus_io.specs.Reader.{ReaderState, coming}
 use Rattle.rec_store.specs.DemoStore.{demo_head, demo_record, IsDemoRecord, NoWholeRecord}
-use Rattle.rec_store.proofs.ByteLemmas.{AreBytes-take, AreBytes-drop, number_of}
+use Rattle.opus_io.proofs.BytesLemmas.{AreBytes-take, AreBytes-drop}
+use Rattle.rec_store.proofs.ByteLemmas.{number_of}
 
 -- two fronts of one length
 pub fronts_same : (a b xs ys : List ℕ) → length a ≡ length b → a ++ xs ≡ b ++ ys → (a ≡ b) × (xs ≡ ys)

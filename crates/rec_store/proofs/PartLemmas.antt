@@ -7,7 +7,8 @@ use Rattle.rec_store.specs.DumpLine.{IsDumpLine, IsLinePart}
 use Rattle.rec_store.specs.DumpItem.{IsOwnLength}
 use Rattle.rec_store.specs.DumpStore.{AreBytes, IsDumpHead, IsOpeningPart, IsRecordPart}
 use Rattle.rec_store.specs.declared.dump_opening.DumpHead.{DumpHead}
-use Rattle.rec_store.proofs.ByteLemmas.{AreBytes-append, AreBytes-take, AreBytes-drop, AreBytes-zeros, short_of, number_of}
+use Rattle.opus_io.proofs.BytesLemmas.{AreBytes-append, AreBytes-take, AreBytes-drop, AreBytes-zeros}
+use Rattle.rec_store.proofs.ByteLemmas.{short_of, number_of}
 use Rattle.rec_store.proofs.ItemLemmas.{dump_head-numbers}
 use Rattle.rec_store.proofs.LineLemmas.{line_part-more}
 

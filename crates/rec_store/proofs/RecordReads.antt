@@ -18,7 +18,7 @@ use Rattle.rec_store.specs.declared.dump_item.DumpRecordHead.{DumpRecordHead}
 use Rattle.rec_store.specs.declared.stop.StoreFault.TheVariants.{StoreCut, DumpLine, DumpLength}
 use Rattle.rec_store.specs.declared.stop.StoreStop.{StoreStop}
 use Rattle.rec_store.specs.declared.stop.StoreStop.TheVariants.{Fault, Read as ReadStop, Limit as LimitStop, NoMemory}
-use Rattle.rec_store.proofs.ByteLemmas.{AreBytes-append}
+use Rattle.opus_io.proofs.BytesLemmas.{AreBytes-append}
 use Rattle.rec_store.proofs.DumpLemmas.{short_same}
 use Rattle.rec_store.proofs.ItemLemmas.{tells_record, packet-taken}
 use Rattle.rec_store.proofs.PartLemmas.{record_part-nil, record_part-one, record_part-of}

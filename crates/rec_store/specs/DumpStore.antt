@@ -1,14 +1,11 @@
 -- A capture in the rtpdump layout: its first line, its head, its records, and how it is cut or goes wrong.
 use Rattle.std.specs.Prelude.{◌≡◌, ℕ, ◌+◌, ◌^◌, ◌≤◌, ◌<◌, List, [], ◌++◌, length}
 use Rattle.std.specs.List.{AllByRecursion, flat_map}
+pub use Rattle.opus_io.specs.Bytes.{AreBytes}
 use Rattle.std.specs.Int.{w16, w32, to_be_bytes}
 use Rattle.rec_store.specs.Dump.{DumpRecord, IsDumpRecord, dump_record_bytes}
 use Rattle.rec_store.specs.DumpLine.{IsDumpLine}
 use Rattle.rec_store.specs.declared.dump_opening.DumpHead.{DumpHead}
-
--- a list of bytes
-abbrev pub AreBytes : List ℕ → Type 0
-AreBytes bytes = AllByRecursion (λ byte. byte < 256) bytes
 
 -- The 16 bytes behind the first line: seconds, microseconds, address and port, and two bytes that may be anything.
 pub record IsDumpHead (head : DumpHead) (bytes : List ℕ) : Type 0 where

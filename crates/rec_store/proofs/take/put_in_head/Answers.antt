@@ -1,4 +1,4 @@
-use Rattle.rec_store.proofs.ByteLemmas.{AreBytes-from}
+use Rattle.opus_io.proofs.BytesLemmas.{AreBytes-from}
 use Rattle.rec_store.proofs.take.put_in_head.Goals as goal
 
 pub returns-clause-are : goal.returns-clause-are

@@ -1,6 +1,6 @@
 use Rattle.std.proofs.Common.{◌≡◌, ◌≤◌, ◌++◌, ◌∙◌, length, take, ap, append_assoc, arith, rules}
 use Rattle.std.proofs.lemmas.Grind.{common_steps}
-use Rattle.rec_store.proofs.ByteLemmas.{AreBytes-append}
+use Rattle.opus_io.proofs.BytesLemmas.{AreBytes-append}
 use Rattle.rec_store.proofs.TakeLemmas.{Begun-turn}
 use Rattle.rec_store.proofs.take.take_bytes.Goals as goal
 

@@ -1,6 +1,6 @@
 use Rattle.std.proofs.Common.{◌≡◌, ◌+◌, ◌≤◌, ◌-◌, ◌++◌, ◌∙◌, length, length-append, length-take, take, ap, arith}
 use Rattle.std.proofs.lemmas.Grind.{common_steps}
-use Rattle.rec_store.proofs.ByteLemmas.{AreBytes-append}
+use Rattle.opus_io.proofs.BytesLemmas.{AreBytes-append}
 use Rattle.rec_store.proofs.TakeLemmas.{Begun-stopped, Begun-turn, kept-turn}
 use Rattle.rec_store.proofs.take.take_head.Goals as goal
 

@@ -1,5 +1,5 @@
 use Rattle.std.proofs.Common.{◌≡◌, ◌+◌, ◌++◌, length, length-append, sym, ap, ◌∙◌, subst, arith}
-use Rattle.rec_store.proofs.ByteLemmas.{AreBytes-from}
+use Rattle.opus_io.proofs.BytesLemmas.{AreBytes-from}
 use Rattle.dump_records.specs.DumpForm.{InRecord}
 use Rattle.dump_records.proofs.StandLemmas.{record_begins}
 use Rattle.dump_records.proofs.FedLemmas.{between}

@@ -1,5 +1,5 @@
 use Rattle.std.proofs.Common.{◌≡◌, ◌+◌, ◌++◌, length, length-take-le, take, sym, ap, ◌∙◌, subst, arith}
-use Rattle.rec_store.proofs.ByteLemmas.{AreBytes-from, AreBytes-take}
+use Rattle.opus_io.proofs.BytesLemmas.{AreBytes-from, AreBytes-take}
 use Rattle.rec_store.specs.DumpItem.{TellsRecord}
 use Rattle.dump_records.specs.DumpForm.{InRecord}
 use Rattle.dump_records.proofs.StandLemmas.{record_more, record_stands}

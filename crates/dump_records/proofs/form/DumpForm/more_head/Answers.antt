@@ -1,5 +1,5 @@
 use Rattle.std.proofs.Common.{◌+◌, ◌++◌, length-take-le, take, ap, ◌∙◌, subst, arith}
-use Rattle.rec_store.proofs.ByteLemmas.{AreBytes-from, AreBytes-take}
+use Rattle.opus_io.proofs.BytesLemmas.{AreBytes-from, AreBytes-take}
 use Rattle.dump_records.specs.DumpForm.{InHead}
 use Rattle.dump_records.proofs.FedLemmas.{head_goes, head_ends, stands_head}
 use Rattle.dump_records.proofs.form.DumpForm.more_head.Goals as goal

@@ -1,6 +1,6 @@
 use Rattle.std.proofs.Common.{◌≡◌, inr, ◌+◌, ◌++◌, length, take, sym, ap, ◌∙◌, subst, arith}
 use Rattle.std.specs.Int.{w16, to_be_bytes}
-use Rattle.rec_store.proofs.ByteLemmas.{AreBytes-from, AreBytes-take}
+use Rattle.opus_io.proofs.BytesLemmas.{AreBytes-from, AreBytes-take}
 use Rattle.dump_records.specs.DumpForm.{InRecord}
 use Rattle.dump_records.proofs.StandLemmas.{record_more, bad_stands}
 use Rattle.dump_records.proofs.FedLemmas.{behind_first}
