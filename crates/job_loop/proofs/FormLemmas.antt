@@ -1,5 +1,5 @@
 -- What a form's machine says, where it is known whether a record stands.
-use Rattle.std.proofs.Common.{◌≡◌, ℕ, ◌-◌, ◌<◌, ◌≤◌, Bool, true, false, List, [], ◌∷◌, ◌++◌, length, take, sym, ap, ◌∙◌, subst, arith, length-take}
+use Rattle.std.proofs.Common.{◌≡◌, ℕ, Bool, true, false, List, [], ◌∷◌, ◌++◌, subst}
 use Rattle.std.specs.declared.option.Option.{Option}
 use Rattle.job_loop.specs.Forms.{HasEnded}
 
@@ -11,10 +11,3 @@ module _ {R C : Type 0} (Ends : List ℕ → List R → Option C → Type 0) (cu
 
   pub ended_bare : (whole : Bool) → whole ≡ false → HasEnded Ends current whole cut h rs → Ends h rs cut
   ended_bare whole is ended = subst (λ b. HasEnded Ends current b cut h rs) is ended
-
--- a byte is kept and none of it may be shown: the limit is reached
-pub limit_reached : (passed limit : ℕ) (bytes : List ℕ) → take (limit - passed) bytes ≡ [] → passed ≤ limit
-    → 0 < length bytes → passed ≡ limit
-limit_reached passed limit bytes none within more =
-    let size = sym (length-take (limit - passed) bytes) ∙ ap (λ (l : List ℕ). length l) none in
-    omega (arith, size, within, more)

@@ -1,6 +1,7 @@
 -- What a turn of a reader of records gives.
 use Rattle.std.specs.Prelude.{◌≡◌, ℕ, ◌+◌, ◌-◌, ◌<◌, ◌≤◌, List, [], ◌∷◌, ◌++◌, Bool, true, false, length, Option, if◌then◌else◌}
 use Rattle.opus_io.specs.Reader.{ReaderState}
+use Rattle.job_loop.specs.declared.records.Records.{Records}
 use Rattle.job_loop.specs.declared.records.Turn.{Turn}
 use Rattle.job_loop.specs.declared.records.Turn.TheVariants.{Part, Record, Needs, Past, End, Last, NoMemory}
 
@@ -64,6 +65,20 @@ IsWanting Past Lacks = Unit {0}
 IsWanting (End cut) Lacks = Unit {0}
 IsWanting (Last cut) Lacks = Unit {0}
 IsWanting NoMemory Lacks = Lacks
+
+-- A turn of a form over a reader: what it did with the bytes kept, what it says of the records, which may be lent, and
+-- when it gives up. Of the form it is told what it depends on, what it stands for, what the end of the input makes of
+-- that, where a record is decided, which record stands, whether it can be lent, and where the form may lack memory.
+pub record Turned {F L R C : Type 0} (layout : F → L) (Stands : F → List ℕ → List R → Type 0)
+    (Ends : L → List ℕ → List R → Option C → Type 0) (place : R → ℕ) (current : F → List ℕ → R)
+    (Ready : F → List ℕ → Type 0) (Lacks : L → Type 0) (came : Turn C) (old new : Records F) : Type 0 where
+  pub moves : Moves came old.reader new.reader old.over
+  pub turn : (h : List ℕ) (rs : List R) → Stands old.form h rs → length h ≡ old.reader.passed
+      → Turns (Stands new.form) (Ends (layout old.form)) place (current new.form new.reader.last) came new.reader h rs
+  pub same : layout new.form ≡ layout old.form
+  pub over : new.over ≡ old.over
+  pub ready : IsReady came (Ready new.form new.reader.last)
+  pub wanting : IsWanting came (Lacks (layout old.form))
 
 -- what is kept lies within the reader's buffer, and at most one byte past the limit
 pub record Within (k : ReaderState) : Type 0 where

@@ -46,8 +46,8 @@ pub trait RecordJob<N: Numbers, C> {
     // What the object stands for; it may hold less than the meaning keeps.
     ghost stands: { Self → Kept → Type 0 };
 
-    // Whether the object may run out of memory by itself, and not for its sink's sake alone.
-    ghost lacks: { Self → Type 0 };
+    // Whether the object may run out of memory by itself, and not for its sink's sake alone. Most may not.
+    ghost lacks: { Self → Type 0 } = { λ _. ⊥ };
 
     /// What stands before the first record.
     fn opening(&self) -> &[u8]

@@ -1,9 +1,7 @@
 //! A run of a job over a source, from its first byte to its answer.
-ghost use Rattle.std.specs.Prelude.{◌≡◌, ◌⊎◌, ◌+◌, ◌≤◌, ℕ, List, [], false, Option, IfSome};
+ghost use Rattle.std.specs.Prelude.{◌≡◌, ◌⊎◌, ◌+◌, ◌≤◌, List, [], IfSome};
 ghost use Rattle.opus_io.specs.Reader.{max_input};
-ghost use Rattle.std.specs.Io.KnownBytes.{Appends};
 ghost use Rattle.opus_io.specs.Cause.{RoseWhere};
-ghost use Rattle.opus_io.specs.Sink.{Onward};
 ghost use Rattle.job_loop.specs.Shown.{Shown};
 ghost use Rattle.job_loop.specs.Meaning.{Meaning, outcome};
 ghost use Rattle.job_loop.specs.declared.input_end.InputEnd.{InputEnd};
@@ -12,11 +10,10 @@ ghost use Rattle.job_loop.specs.Ran.{Ran};
 ghost use Rattle.job_loop.specs.Reading.{Reads, Answers, TakesAtMost};
 
 use crate::gathered::{Gathered, take_room};
-use crate::hand::stopped;
 use crate::records::Records;
 use crate::run::run_records;
-use crate::{Ending, Form, Gather, RecordJob};
-use opus_io::{Reader, Sink, Source, write_all};
+use crate::{Ending, Form, RecordJob};
+use opus_io::{Reader, Sink, Source};
 use std::alloc::Global;
 
 /// Runs a job over a source of this form, up to `limit` bytes, from 1 to 2^40, and writes its text to `out`.
@@ -60,40 +57,7 @@ where
         return Ending::NoMemory;
     };
     let mut gathered = Gathered::over(room, out);
-    let ending = run_opened(&mut Records::new(reader, form), job, source, &mut gathered);
+    let ending = run_records(&mut Records::new(reader, form), job, source, &mut gathered);
     gathered.into_inner();
     ending
-}
-
-// Writes what stands before the first record, and runs the job.
-fn run_opened<F, J, S, O>(
-    records: &mut Records<F>,
-    job: &mut J,
-    source: &mut S,
-    out: &mut O,
-) -> Ending<J::Refusal>
-where
-    F: Form,
-    J: RecordJob<F::Record, F::Cut>,
-    S: Source,
-    O: Gather,
-    requires bytes { records.old.reader.bytes ≡ [] }
-    requires passed { records.old.reader.passed ≡ 0 }
-    requires over { records.old.over ≡ false }
-    requires form { F.stands records.old.form [] [] }
-    requires start { J.stands job.old (J.meaning job.old).start }
-    ensures ran { Ran (J.meaning job.old) (F.settles (F.layout records.old.form))
-        (F.ends (F.layout records.old.form)) F.place records.old.reader.limit
-        (S.left source.old) (S.left source.new) (O.contents out.old) (O.contents out.new) (O.held out.new) result }
-    ensures same { J.meaning job.new ≡ J.meaning job.old }
-    ensures read { RoseWhere (is_read_fault result) (S.faults source.old) (S.faults source.new) }
-    ensures cause { Causes (is_write_fault result) (is_no_memory result)
-        (J.lacks job.old ⊎ F.lacks (F.layout records.old.form))
-        (O.faults out.old) (O.faults out.new) (O.refusals out.old) (O.refusals out.new) }
-    ensures onward { Onward (O.onto out.old) (O.onto out.new) (O.handed out.old) (O.handed out.new) }
-{
-    if let Err(stop) = write_all(out, job.opening()) {
-        return stopped(stop);
-    }
-    run_records(records, job, source, out)
 }

@@ -1,11 +1,10 @@
 //! The records of an input, read one after the other.
-ghost use Rattle.std.specs.Prelude.{◌≡◌, ℕ, ◌<◌, ◌≤◌, List, [], true, false, take, length, ◌-◌, OnOk, OnErr};
+ghost use Rattle.std.specs.Prelude.{◌≡◌, ◌<◌, ◌≤◌, [], true, false, take, length, ◌-◌, OnOk, OnErr};
 ghost use Rattle.opus_io.specs.Reader.{max_input};
 ghost use Rattle.std.specs.Io.KnownBytes.{IsAtEnd};
 ghost use Rattle.opus_io.specs.Source.{SourceCause};
 ghost use Rattle.opus_io.specs.Reader.{Stays};
-ghost use Rattle.job_loop.specs.Shown.{Shown};
-ghost use Rattle.job_loop.specs.Turns.{Moves, Turns, IsReady, IsWanting, Within, still};
+ghost use Rattle.job_loop.specs.Turns.{Turned};
 
 use crate::{Form, Lent};
 use opus_io::{Failed, NoMemory, Reader, Source};
@@ -55,15 +54,7 @@ impl<F: Form> Records<F> {
     /// Goes on in the bytes that were taken, as far as the next one that decides something.
     #[inline(always)]
     pub(crate) fn next(&mut self) -> Turn<F::Cut>
-        ensures moves { Moves result self.old.reader self.new.reader self.old.over }
-        ensures turn { (h : List ℕ) (rs : List (Shown F.Record)) → F.stands self.old.form h rs
-            → length h ≡ self.old.reader.passed
-            → Turns (F.stands self.new.form) (F.ends (F.layout self.old.form)) F.place
-            (F.current self.new.form self.new.reader.last) result self.new.reader h rs }
-        ensures same { F.layout self.new.form ≡ F.layout self.old.form }
-        ensures over { self.new.over ≡ self.old.over }
-        ensures ready { IsReady result (F.ready self.new.form self.new.reader.last) }
-        ensures wanting { IsWanting result (F.lacks (F.layout self.old.form)) }
+        ensures { Turned F.layout F.stands F.ends F.place F.current F.ready F.lacks result self.old self.new }
     {
         let shown = self.reader.shown();
         if shown.is_empty() {
@@ -85,15 +76,7 @@ impl<F: Form> Records<F> {
         requires nothing { take (self.old.reader.limit - self.old.reader.passed) self.old.reader.bytes ≡ [] }
         requires in_limit { self.old.reader.passed ≤ self.old.reader.limit }
         requires most { self.old.reader.passed ≤ max_input }
-        ensures moves { Moves result self.old.reader self.new.reader self.old.over }
-        ensures turn { (h : List ℕ) (rs : List (Shown F.Record)) → F.stands self.old.form h rs
-            → length h ≡ self.old.reader.passed
-            → Turns (F.stands self.new.form) (F.ends (F.layout self.old.form)) F.place
-            (F.current self.new.form self.new.reader.last) result self.new.reader h rs }
-        ensures same { F.layout self.new.form ≡ F.layout self.old.form }
-        ensures over { self.new.over ≡ self.old.over }
-        ensures ready { IsReady result (F.ready self.new.form self.new.reader.last) }
-        ensures wanting { IsWanting result (F.lacks (F.layout self.old.form)) }
+        ensures { Turned F.layout F.stands F.ends F.place F.current F.ready F.lacks result self.old self.new }
     {
         if self.reader.is_filled() {
             return Turn::Past;

@@ -1,6 +1,5 @@
 //! The loop over the records of an input, which all jobs share.
-ghost use Rattle.std.specs.Prelude.{◌≡◌, ◌⊎◌, ℕ, ◌≤◌, List, [], false, Option};
-ghost use Rattle.std.specs.Io.KnownBytes.{Appends};
+ghost use Rattle.std.specs.Prelude.{◌≡◌, ◌⊎◌, [], false};
 ghost use Rattle.opus_io.specs.Cause.{RoseWhere};
 ghost use Rattle.opus_io.specs.Sink.{Onward};
 ghost use Rattle.job_loop.specs.Meaning.{Meaning};
@@ -11,11 +10,11 @@ use crate::hand::{close, hand, stopped};
 use crate::input_end::end_of;
 use crate::records::{Records, Turn};
 use crate::{Ending, Form, Gather, InputEnd, RecordJob};
-use opus_io::{Failed, Source};
+use opus_io::{Failed, Source, write_all};
 
-/// Runs a job over records of which none was read yet.
+/// Runs a job over records of which none was read yet, and writes the job's opening first.
 ///
-/// What the job writes is handed on before each read. `out` holds the job's opening already.
+/// What the job writes is handed on before each read.
 pub(crate) fn run_records<F, J, S, O>(
     records: &mut Records<F>,
     job: &mut J,
@@ -32,11 +31,9 @@ where
     requires over { records.old.over ≡ false }
     requires form { F.stands records.old.form [] [] }
     requires start { J.stands job.old (J.meaning job.old).start }
-    ensures ran { (before : Option (List ℕ))
-        → Appends before (O.contents out.old) (J.meaning job.old).opening
-        → Ran (J.meaning job.old) (F.settles (F.layout records.old.form))
+    ensures ran { Ran (J.meaning job.old) (F.settles (F.layout records.old.form))
         (F.ends (F.layout records.old.form)) F.place records.old.reader.limit
-        (S.left source.old) (S.left source.new) before (O.contents out.new) (O.held out.new) result }
+        (S.left source.old) (S.left source.new) (O.contents out.old) (O.contents out.new) (O.held out.new) result }
     ensures same { J.meaning job.new ≡ J.meaning job.old }
     ensures read { RoseWhere (is_read_fault result) (S.faults source.old) (S.faults source.new) }
     ensures cause { Causes (is_write_fault result) (is_no_memory result)
@@ -44,6 +41,9 @@ where
         (O.faults out.old) (O.faults out.new) (O.refusals out.old) (O.refusals out.new) }
     ensures onward { Onward (O.onto out.old) (O.onto out.new) (O.handed out.old) (O.handed out.new) }
 {
+    if let Err(stop) = write_all(out, job.opening()) {
+        return stopped(stop);
+    }
     'records: loop {
         match records.next() {
             Turn::Part => {}

@@ -27,8 +27,6 @@ impl<N: Numbers, C> RecordJob<N, C> for Count {
 
     ghost stands = { λ s k. k ≡ s.count };
 
-    ghost lacks = { λ _. ⊥ };
-
     fn opening(&self) -> &[u8] {
         &[]
     }

@@ -18,8 +18,6 @@ impl<N: Numbers, C> RecordJob<N, C> for Payloads {
 
     ghost stands = { λ _ _. Unit {0} };
 
-    ghost lacks = { λ _. ⊥ };
-
     fn opening(&self) -> &[u8] {
         b"#"
     }

@@ -19,8 +19,6 @@ impl<N: Numbers, C> RecordJob<N, C> for Repeats {
 
     ghost stands = { λ _ _. Unit {0} };
 
-    ghost lacks = { λ _. ⊥ };
-
     fn opening(&self) -> &[u8] {
         &[]
     }

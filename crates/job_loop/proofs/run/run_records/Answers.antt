@@ -3,7 +3,7 @@ use Rattle.std.specs.Io.KnownBytes.{Keeps}
 use Rattle.opus_io.specs.Reader.{ReaderState, coming}
 use Rattle.std.proofs.KnownBytes.{Keeps-refl}
 use Rattle.opus_io.specs.declared.sink.SinkStop.TheVariants.{NoMemory}
-use Rattle.opus_io.proofs.Onward.{Onward-still, Onward-trans}
+use Rattle.opus_io.proofs.Onward.{Onward-trans}
 use Rattle.job_loop.specs.declared.ending.Ending.TheVariants as endings
 use Rattle.job_loop.specs.Telling.{Goes}
 use Rattle.job_loop.specs.Turns.{still}
@@ -25,12 +25,11 @@ records-init g c =
       within = record { near = omega (arith, size); in_limit = omega (arith, q.passed); one_past = omega (arith, size, q.passed) };
       end = search rules;
       reads = refl;
-      writes = refl;
-      refusals = omega arith;
-      onward = Onward-still _ _;
-      reached = λ before opens. reached_start (g.J.RecordJob.meaning c.args.job.now)
-          (g.F.Form.stands c.args.records.now.form) (g.J.RecordJob.stands c.args.job.now) k _ before _ q.bytes q.passed q.form
-          q.start opens;
+      writes = c.in_default.ensures.cause.still;
+      refusals = omega (arith, c.write_all.ensures.cause.later_refused);
+      onward = c.write_all.ensures.onward;
+      reached = reached_start (g.J.RecordJob.meaning c.args.job.now) (g.F.Form.stands c.args.records.now.form)
+          (g.J.RecordJob.stands c.args.job.now) k _ _ _ q.bytes q.passed q.form q.start (search rules);
     }
 
 pub records-preserved-in-Part : goal.records-preserved-in-Part
@@ -48,11 +47,11 @@ records-preserved-in-Part g c =
       writes = i.writes;
       refusals = i.refusals;
       onward = i.onward;
-      reached = λ before opens.
-          let p = i.reached before opens in
+      reached =
+          let p = i.reached in
           reached_part (g.J.RecordJob.meaning c.args.job.now) (g.F.Form.stands c.records.records.form)
           (g.F.Form.stands c.next.new.self.form) (g.J.RecordJob.stands c.records.job) (g.J.RecordJob.stands c.records.job)
-          (g.S.Source.left c.args.source.now) before (g.O.Sink.contents c.records.out) (g.O.Sink.contents c.records.out)
+          (g.S.Source.left c.args.source.now) (g.O.Sink.contents c.args.out.now) (g.O.Sink.contents c.records.out) (g.O.Sink.contents c.records.out)
           c.records.records.reader c.next.new.self.reader (g.S.Source.left c.records.source) p e.moves
           (e.turn p.front p.records p.stands p.size);
     }
@@ -65,27 +64,27 @@ records-smaller-in-Part g c =
     subst (λ b. still new b < still old c.records.records.over) (sym e.over)
     (still_moved c.records.records.over old new c.records.invariant.within e.moves)
 
-pub returns-in-Err-clause-ran : goal.returns-in-Err-clause-ran
-returns-in-Err-clause-ran g c = λ before opens.
+pub returns-in-Err-hand-clause-ran : goal.returns-in-Err-hand-clause-ran
+returns-in-Err-hand-clause-ran g c =
     let i = c.records.invariant in
     let e = c.in-Record.ensures in
     let l = g.F.Form.layout c.args.records.now.form in
     let new = c.next.new.self.reader in
     let r = g.F.Form.current c.next.new.self.form new.last in
-    let p = i.reached before opens in
+    let p = i.reached in
     let turn = e.turn p.front p.records p.stands p.size in
     turn_halted (g.F.Form.settles l) (g.F.Form.ends l) g.F.Form.place c.args.records.now.reader.limit
     (g.S.Source.left c.records.source) c.records.records.reader new i.within i.limit p
     (g.J.RecordJob.meaning c.records.job) i.meaning (g.O.Sink.contents c.hand.new.out) (g.O.Gather.held c.hand.new.out)
-    c.record.result r c.record.ensures.is c.in-Err.ending (c.in-Err.ensures.halt p.kept p.job) e.moves turn.1
+    c.record.result r c.record.ensures.is c.in-Err-hand.ending (c.in-Err-hand.ensures.halt p.kept p.job) e.moves turn.1
     (subst (λ l. g.F.Form.settles l (p.front ++ new.last) (p.records ++ r ∷ [])) (e.same ∙ i.layout)
     (g.met.F.Form.settled c.next.new.self.form (p.front ++ new.last) (p.records ++ r ∷ []) turn.0))
 
-pub records-preserved-in_default : goal.records-preserved-in_default
-records-preserved-in_default g c =
+pub records-preserved-in_default-hand : goal.records-preserved-in_default-hand
+records-preserved-in_default-hand g c =
     let i = c.records.invariant in
     let e = c.in-Record.ensures in
-    let h = c.in_default.ensures in
+    let h = c.in_default-hand.ensures in
     let old = c.records.records.reader in
     let new = c.next.new.self.reader in
     let m = g.J.RecordJob.meaning c.args.job.now in
@@ -104,18 +103,18 @@ records-preserved-in_default g c =
       writes = h.cause.written ∙ i.writes;
       refusals = omega (arith, i.refusals, h.cause.later);
       onward = Onward-trans _ _ _ _ _ _ i.onward h.onward;
-      reached = λ before opens.
-          let p = i.reached before opens in
+      reached =
+          let p = i.reached in
           let turn = e.turn p.front p.records p.stands p.size in
           reached_record m (g.F.Form.stands c.records.records.form) (g.F.Form.stands c.next.new.self.form)
-          (g.J.RecordJob.stands c.records.job) J' (g.S.Source.left c.args.source.now) before now after old new
+          (g.J.RecordJob.stands c.records.job) J' (g.S.Source.left c.args.source.now) (g.O.Sink.contents c.args.out.now) now after old new
           (g.S.Source.left c.records.source) p e.moves r turn.0
           (meant (g.J.RecordJob.meaning c.records.job) m (λ s. Goes s J' now after) p.kept c.record.result r
           i.meaning c.record.ensures.is (h.ok p.kept p.job));
     }
 
-pub records-smaller-in_default : goal.records-smaller-in_default
-records-smaller-in_default g c =
+pub records-smaller-in_default-hand : goal.records-smaller-in_default-hand
+records-smaller-in_default-hand g c =
     let old = c.records.records.reader in
     let new = c.next.new.self.reader in
     let e = c.in-Record.ensures in
@@ -123,26 +122,26 @@ records-smaller-in_default g c =
     (still_moved c.records.records.over old new c.records.invariant.within e.moves)
 
 pub returns-in-Err-flush-clause-ran : goal.returns-in-Err-flush-clause-ran
-returns-in-Err-flush-clause-ran g c = λ before opens.
+returns-in-Err-flush-clause-ran g c =
     let i = c.records.invariant in
     let e = c.in-Needs.ensures in
     let l = g.F.Form.layout c.args.records.now.form in
-    let p = i.reached before opens in
+    let p = i.reached in
     turn_unwritten (g.F.Form.settles l) (g.F.Form.ends l) g.F.Form.place c.args.records.now.reader.limit
     (g.S.Source.left c.records.source) c.records.records.reader c.next.new.self.reader i.within i.limit p
     (g.J.RecordJob.meaning c.records.job) i.meaning (g.O.Sink.contents c.flush.new.self) (g.O.Gather.held c.flush.new.self)
     (subst (λ l. g.F.Form.settles l p.front p.records) (e.same ∙ i.layout)
     (g.met.F.Form.settled c.next.new.self.form p.front p.records (e.turn p.front p.records p.stands p.size)))
-    c.in-Err-flush.ensures.keeps c.in-Err-flush.stop c.stopped.result c.stopped.ensures
+    c.in-Err-flush.ensures.keeps c.in-Err-flush.stop c.stopped-in-Err-flush.result c.stopped-in-Err-flush.ensures
 
 pub returns-in-Err-read-clause-ran : goal.returns-in-Err-read-clause-ran
-returns-in-Err-read-clause-ran g c = λ before opens.
+returns-in-Err-read-clause-ran g c =
     let i = c.records.invariant in
     let e = c.in-Needs.ensures in
     let f = c.in_default-flush.ensures in
     let r = c.in-Err-read.ensures in
     let l = g.F.Form.layout c.args.records.now.form in
-    let p = i.reached before opens in
+    let p = i.reached in
     turn_unread (g.F.Form.settles l) (g.F.Form.ends l) g.F.Form.place c.args.records.now.reader.limit
     (g.S.Source.left c.records.source) c.records.records.reader c.next.new.self.reader i.within i.limit p
     (g.J.RecordJob.meaning c.records.job) i.meaning (g.O.Sink.contents c.flush.new.self) (g.O.Gather.held c.flush.new.self)
@@ -173,11 +172,11 @@ records-preserved g c =
       writes = f.cause.still ∙ i.writes;
       refusals = omega (arith, i.refusals, f.cause.later_refused);
       onward = Onward-trans _ _ _ _ _ _ i.onward f.onward;
-      reached = λ before opens.
-          let p = i.reached before opens in
+      reached =
+          let p = i.reached in
           reached_read (g.J.RecordJob.meaning c.args.job.now) (g.F.Form.stands c.records.records.form)
           (g.F.Form.stands c.read.new.self.form) (g.J.RecordJob.stands c.records.job) (g.J.RecordJob.stands c.records.job)
-          left before (g.O.Sink.contents c.records.out) (g.O.Sink.contents c.flush.new.self) old new source source' p
+          left (g.O.Sink.contents c.args.out.now) (g.O.Sink.contents c.records.out) (g.O.Sink.contents c.flush.new.self) old new source source' p
           (subst (λ f. g.F.Form.stands f p.front p.records) (sym r.form) (e.turn p.front p.records p.stands p.size)) f.keeps
           (subst (λ (k : ReaderState). Keeps (coming k source) (coming new source')) same r.stays.coming)
           (r.stays.passed ∙ ap (λ (k : ReaderState). k.passed) same);
@@ -198,11 +197,11 @@ records-smaller g c =
     (r.stays.limit ∙ ap (λ (k : ReaderState). k.limit) same) r.filled (λ is. (r.end is).0))
 
 pub returns-in-Past-clause-ran : goal.returns-in-Past-clause-ran
-returns-in-Past-clause-ran g c = λ before opens.
+returns-in-Past-clause-ran g c =
     let i = c.records.invariant in
     let e = c.in-Past.ensures in
     let l = g.F.Form.layout c.args.records.now.form in
-    let p = i.reached before opens in
+    let p = i.reached in
     turn_past (g.F.Form.settles l) (g.F.Form.ends l) g.F.Form.place c.args.records.now.reader.limit
     (g.S.Source.left c.records.source) c.records.records.reader c.next.new.self.reader i.within i.limit p
     (g.J.RecordJob.meaning c.records.job) i.meaning (g.O.Sink.contents c.close.new.out) (g.O.Gather.held c.close.new.out)
@@ -211,10 +210,10 @@ returns-in-Past-clause-ran g c = λ before opens.
     c.close.result (c.close.ensures.closes p.kept p.job)
 
 pub returns-in-NoMemory-clause-ran : goal.returns-in-NoMemory-clause-ran
-returns-in-NoMemory-clause-ran g c = λ before opens.
+returns-in-NoMemory-clause-ran g c =
     let i = c.records.invariant in
     let l = g.F.Form.layout c.args.records.now.form in
-    let p = i.reached before opens in
+    let p = i.reached in
     turn_unwritten (g.F.Form.settles l) (g.F.Form.ends l) g.F.Form.place c.args.records.now.reader.limit
     (g.S.Source.left c.records.source) c.records.records.reader c.next.new.self.reader i.within i.limit p
     (g.J.RecordJob.meaning c.records.job) i.meaning (g.O.Sink.contents c.records.out) (g.O.Gather.held c.records.out)
@@ -222,12 +221,12 @@ returns-in-NoMemory-clause-ran g c = λ before opens.
     (g.met.F.Form.settled c.records.records.form p.front p.records p.stands)) (Keeps-refl _) NoMemory endings.NoMemory refl
 
 pub returns-in-End-clause-ran : goal.returns-in-End-clause-ran
-returns-in-End-clause-ran g c = λ before opens.
+returns-in-End-clause-ran g c =
     let i = c.records.invariant in
     let e = c.in-End.ensures in
     let l = g.F.Form.layout c.args.records.now.form in
     let close = c.close-in-End in
-    let p = i.reached before opens in
+    let p = i.reached in
     turn_ended (g.F.Form.settles l) (g.F.Form.ends l) g.F.Form.place c.args.records.now.reader.limit
     (g.S.Source.left c.records.source) c.records.records.reader c.next.new.self.reader i.within i.limit p
     (g.J.RecordJob.meaning c.records.job) i.meaning (g.O.Sink.contents close.new.out) (g.O.Gather.held close.new.out)
@@ -236,33 +235,33 @@ returns-in-End-clause-ran g c = λ before opens.
     (subst (λ l. g.F.Form.ends l p.front p.records c.in-End.cut) i.layout (e.turn p.front p.records p.stands p.size))
     c.end_of.result c.end_of.ensures close.result (close.ensures.closes p.kept p.job)
 
-pub returns-in-Err-hand-clause-ran : goal.returns-in-Err-hand-clause-ran
-returns-in-Err-hand-clause-ran g c = λ before opens.
+pub returns-in-Err-hand-2-clause-ran : goal.returns-in-Err-hand-2-clause-ran
+returns-in-Err-hand-2-clause-ran g c =
     let i = c.records.invariant in
     let e = c.in-Last.ensures in
     let l = g.F.Form.layout c.args.records.now.form in
     let hand = c.hand-in-Last in
     let r = g.F.Form.current c.next.new.self.form c.next.new.self.reader.last in
-    let p = i.reached before opens in
+    let p = i.reached in
     turn_halted_last (g.F.Form.settles l) (g.F.Form.ends l) g.F.Form.place c.args.records.now.reader.limit
     (g.S.Source.left c.records.source) c.records.records.reader c.next.new.self.reader i.within i.limit p
     (g.J.RecordJob.meaning c.records.job) i.meaning (g.O.Sink.contents hand.new.out) (g.O.Gather.held hand.new.out)
     e.moves.0 (i.end e.moves.1) (subst (λ l. g.F.Form.settles l p.front p.records) i.layout
     (g.met.F.Form.settled c.records.records.form p.front p.records p.stands)) c.in-Last.cut c.record-in-Last.result r
-    c.record-in-Last.ensures.is c.in-Err-hand.ending (c.in-Err-hand.ensures.halt p.kept p.job)
+    c.record-in-Last.ensures.is c.in-Err-hand-2.ending (c.in-Err-hand-2.ensures.halt p.kept p.job)
     (subst (λ l. g.F.Form.ends l p.front (p.records ++ r ∷ []) c.in-Last.cut) i.layout
     (e.turn p.front p.records p.stands p.size))
 
 pub returns-in-Last-clause-ran : goal.returns-in-Last-clause-ran
-returns-in-Last-clause-ran g c = λ before opens.
+returns-in-Last-clause-ran g c =
     let i = c.records.invariant in
     let e = c.in-Last.ensures in
-    let h = c.in_default-hand.ensures in
+    let h = c.in_default-hand-2.ensures in
     let l = g.F.Form.layout c.args.records.now.form in
     let hand = c.hand-in-Last in
     let close = c.close-in-Last in
     let r = g.F.Form.current c.next.new.self.form c.next.new.self.reader.last in
-    let p = i.reached before opens in
+    let p = i.reached in
     let went = h.ok p.kept p.job in
     turn_ended_last (g.F.Form.settles l) (g.F.Form.ends l) g.F.Form.place c.args.records.now.reader.limit
     (g.S.Source.left c.records.source) c.records.records.reader c.next.new.self.reader i.within i.limit p
@@ -275,8 +274,8 @@ returns-in-Last-clause-ran g c = λ before opens.
     (g.J.RecordJob.meaning hand.new.job) h.same c.end_of-in-Last.result c.end_of-in-Last.ensures close.result
     (close.ensures.closes went.kept went.stands)
 
-pub returns-in-Err-clause-onward : goal.returns-in-Err-clause-onward
-returns-in-Err-clause-onward g c = Onward-trans _ _ _ _ _ _ c.records.invariant.onward c.hand.ensures.onward
+pub returns-in-Err-hand-clause-onward : goal.returns-in-Err-hand-clause-onward
+returns-in-Err-hand-clause-onward g c = Onward-trans _ _ _ _ _ _ c.records.invariant.onward c.hand.ensures.onward
 
 pub returns-in-Err-flush-clause-onward : goal.returns-in-Err-flush-clause-onward
 returns-in-Err-flush-clause-onward g c = Onward-trans _ _ _ _ _ _ c.records.invariant.onward c.flush.ensures.onward
@@ -290,8 +289,8 @@ returns-in-Past-clause-onward g c = Onward-trans _ _ _ _ _ _ c.records.invariant
 pub returns-in-End-clause-onward : goal.returns-in-End-clause-onward
 returns-in-End-clause-onward g c = Onward-trans _ _ _ _ _ _ c.records.invariant.onward c.close-in-End.ensures.onward
 
-pub returns-in-Err-hand-clause-onward : goal.returns-in-Err-hand-clause-onward
-returns-in-Err-hand-clause-onward g c = Onward-trans _ _ _ _ _ _ c.records.invariant.onward c.hand-in-Last.ensures.onward
+pub returns-in-Err-hand-2-clause-onward : goal.returns-in-Err-hand-2-clause-onward
+returns-in-Err-hand-2-clause-onward g c = Onward-trans _ _ _ _ _ _ c.records.invariant.onward c.hand-in-Last.ensures.onward
 
 pub returns-in-Last-clause-onward : goal.returns-in-Last-clause-onward
 returns-in-Last-clause-onward g c =

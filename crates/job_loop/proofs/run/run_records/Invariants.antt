@@ -1,5 +1,5 @@
-use Rattle.std.proofs.Common.{◌≡◌, ℕ, ◌≤◌, List, true, Option}
-use Rattle.std.specs.Io.KnownBytes.{Appends, IsAtEnd}
+use Rattle.std.proofs.Common.{◌≡◌, ◌≤◌, true}
+use Rattle.std.specs.Io.KnownBytes.{IsAtEnd}
 use Rattle.opus_io.specs.Reader.{coming}
 use Rattle.opus_io.specs.Sink.{Onward}
 use Rattle.job_loop.specs.Turns.{Within, still}
@@ -15,13 +15,11 @@ invariant-records g l = record {
   within : Within l.records.reader;
   end : l.records.over ≡ true → IsAtEnd (g.S.Source.left l.source);
   reads : g.S.Source.faults l.source ≡ g.S.Source.faults l.initial.source;
-  writes : g.O.Sink.faults l.out ≡ g.O.Sink.faults l.initial.out;
-  refusals : g.O.Sink.refusals l.initial.out ≤ g.O.Sink.refusals l.out;
-  onward : Onward (g.O.Sink.onto l.initial.out) (g.O.Sink.onto l.out) (g.O.Sink.handed l.initial.out) (g.O.Sink.handed l.out);
-  reached : (before : Option (List ℕ))
-      → Appends before (g.O.Sink.contents l.initial.out) (g.J.RecordJob.meaning l.initial.job).opening
-      → Reached (g.J.RecordJob.meaning l.initial.job) (g.F.Form.stands l.records.form) (g.J.RecordJob.stands l.job)
-      (g.S.Source.left l.initial.source) (coming l.records.reader (g.S.Source.left l.source)) before
+  writes : g.O.Sink.faults l.out ≡ g.O.Sink.faults l.fn.out;
+  refusals : g.O.Sink.refusals l.fn.out ≤ g.O.Sink.refusals l.out;
+  onward : Onward (g.O.Sink.onto l.fn.out) (g.O.Sink.onto l.out) (g.O.Sink.handed l.fn.out) (g.O.Sink.handed l.out);
+  reached : Reached (g.J.RecordJob.meaning l.initial.job) (g.F.Form.stands l.records.form) (g.J.RecordJob.stands l.job)
+      (g.S.Source.left l.initial.source) (coming l.records.reader (g.S.Source.left l.source)) (g.O.Sink.contents l.fn.out)
       (g.O.Sink.contents l.out) l.records.reader.passed;
 }
 
