@@ -69,33 +69,11 @@ impl Head {
         self.version
     }
 
-    /// Output channels, at least 1.
-    pub fn channels(&self) -> u8
-        ensures value { result ≡ self.now.channels }
-        ensures some { 1 ≤ result }
+    /// The bytes that follow the table, in other versions than 1.
+    pub fn extra(&self) -> &[u8]
+        ensures { result.now ≡ self.now.extra }
     {
-        self.channels
-    }
-
-    /// Samples at 48 kHz to drop from the decoder's output at the start.
-    pub fn pre_skip(&self) -> u16
-        ensures { result ≡ self.now.pre_skip }
-    {
-        self.pre_skip
-    }
-
-    /// The sample rate of the original input, in hertz, or 0 where it isn't told. It isn't the rate to play at.
-    pub fn rate(&self) -> u32
-        ensures { result ≡ self.now.rate }
-    {
-        self.rate
-    }
-
-    /// What the decoder's output is to be raised by, in 1/256 dB.
-    pub fn gain(&self) -> i16
-        ensures { result ≡ self.now.gain }
-    {
-        self.gain
+        self.extra.as_slice()
     }
 
     /// The channel mapping family, as it was read.
@@ -103,6 +81,31 @@ impl Head {
         ensures { result ≡ self.now.family }
     {
         self.family
+    }
+
+    /// The channel mapping table.
+    pub fn table(&self) -> &Table
+        ensures { result.now ≡ self.now.table }
+    {
+        &self.table
+    }
+
+    /// The factor at index `i` of the matrix, in the order of the file.
+    pub fn entry(&self, i: usize) -> i16
+        requires { i < factors_of self.now }
+        ensures { result ≡ factor_at (table_entries self.now.table) i }
+    {
+        match &self.table {
+            Table::Matrix { entries, .. } => LittleEndian::read_i16(&entries.as_slice()[2 * i..]),
+            _ => 0,
+        }
+    }
+
+    /// The sample rate of the original input, in hertz, or 0 where it isn't told. It isn't the rate to play at.
+    pub fn rate(&self) -> u32
+        ensures { result ≡ self.now.rate }
+    {
+        self.rate
     }
 
     /// Streams in each packet, at least 1.
@@ -125,28 +128,25 @@ impl Head {
         }
     }
 
-    /// The channel mapping table.
-    pub fn table(&self) -> &Table
-        ensures { result.now ≡ self.now.table }
+    /// Samples at 48 kHz to drop from the decoder's output at the start.
+    pub fn pre_skip(&self) -> u16
+        ensures { result ≡ self.now.pre_skip }
     {
-        &self.table
+        self.pre_skip
     }
 
-    /// The bytes that follow the table, in other versions than 1.
-    pub fn extra(&self) -> &[u8]
-        ensures { result.now ≡ self.now.extra }
+    /// Output channels, at least 1.
+    pub fn channels(&self) -> u8
+        ensures value { result ≡ self.now.channels }
+        ensures some { 1 ≤ result }
     {
-        self.extra.as_slice()
+        self.channels
     }
 
-    /// The factor at index `i` of the matrix, in the order of the file.
-    pub fn entry(&self, i: usize) -> i16
-        requires { i < factors_of self.now }
-        ensures { result ≡ factor_at (table_entries self.now.table) i }
+    /// What the decoder's output is to be raised by, in 1/256 dB.
+    pub fn gain(&self) -> i16
+        ensures { result ≡ self.now.gain }
     {
-        match &self.table {
-            Table::Matrix { entries, .. } => LittleEndian::read_i16(&entries.as_slice()[2 * i..]),
-            _ => 0,
-        }
+        self.gain
     }
 }

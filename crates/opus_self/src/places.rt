@@ -1,17 +1,18 @@
 //! Where the parts of a self-delimited packet lie: small numbers from which it is made again over its bytes.
-ghost use Rattle.std.specs.Prelude.{◌≡◌, ℕ, ◌+◌, ◌≤◌, length, take, drop, IfOk, IfErr};
+ghost use Rattle.std.specs.Prelude.{◌≡◌, ◌+◌, ◌≤◌, length, take, drop, IfOk, IfErr};
 ghost use Rattle.opus_flen.specs.FrameLength.{length_bytes, length_read};
 ghost use Rattle.opus_flen.specs.declared.frame_length.LenRead.TheVariants.{Len};
-ghost use Rattle.opus_packet.specs.declared.shape.Shape.{Shape};
 ghost use Rattle.opus_packet.specs.declared.fault.Rule.TheVariants.{Cut};
-ghost use Rattle.opus_packet.specs.Value.{PacketValue, max_frame};
+ghost use Rattle.opus_packet.specs.Value.{max_frame};
 ghost use Rattle.opus_packet.specs.HeaderRead.{header_read};
 ghost use Rattle.opus_packet.specs.HeaderStands.{HeaderStands};
 ghost use Rattle.opus_packet.specs.PacketFault.{fault};
-ghost use Rattle.opus_packet.specs.SelfGrammar.{SpellsSelf, BeginsWithSelf};
+ghost use Rattle.opus_packet.specs.SelfGrammar.{SpellsSelf};
 ghost use Rattle.opus_packet.specs.SelfPrefix.{self_delimited_fault};
 ghost use Rattle.opus_self.specs.SelfFits.{SelfFits, max_self_packet};
 ghost use Rattle.opus_self.specs.HasSelfTail.{HasSelfTail};
+ghost use Rattle.opus_self.specs.OnlyReading.{IsOnlyReading};
+ghost use Rattle.opus_self.specs.BecomesSelf.{BeginsWithNone};
 
 use opus_flen::{LenRead, read_len};
 use opus_packet::{Fault, Header, HeaderRead, Packet, Places, Rule, read_header};
@@ -30,8 +31,7 @@ pub struct SelfPlaces {
 pub fn locate_self(bytes: &[u8]) -> Result<SelfPlaces, Fault>
     ensures within { IfOk result (λ p. p.size ≤ length bytes.now) }
     ensures fits { IfOk result (λ p. SelfFits p (take p.size bytes.now)) }
-    ensures none { IfErr result (λ f. (v : PacketValue) (s : Shape) (used : ℕ)
-        → BeginsWithSelf v s used bytes.now → ⊥) }
+    ensures none { IfErr result (λ f. BeginsWithNone bytes.now) }
     ensures fault { IfErr result (λ f. f ≡ self_delimited_fault bytes.now) }
 {
     match read_header(bytes) {
@@ -57,8 +57,7 @@ impl SelfPlaces {
         ensures found { SpellsSelf result.value result.shape bytes.now }
         ensures size { result.size ≡ length bytes.now }
         ensures most { result.size ≤ max_self_packet }
-        ensures only { (v : PacketValue) (s : Shape) → SpellsSelf v s bytes.now
-            → (result.value ≡ v) × (result.shape ≡ s) }
+        ensures only { IsOnlyReading result bytes.now }
         ensures tail { HasSelfTail result bytes.now }
     {
         let last = self.places.last_len();
@@ -96,8 +95,7 @@ fn read_last(header: Header<'_>, bytes: &[u8]) -> Result<SelfPlaces, Fault>
     requires { HeaderStands header (length bytes.now) (header_read bytes.now) }
     ensures within { IfOk result (λ p. p.size ≤ length bytes.now) }
     ensures fits { IfOk result (λ p. SelfFits p (take p.size bytes.now)) }
-    ensures none { IfErr result (λ f. (v : PacketValue) (s : Shape) (used : ℕ)
-        → BeginsWithSelf v s used bytes.now → ⊥) }
+    ensures none { IfErr result (λ f. BeginsWithNone bytes.now) }
     ensures fault { IfErr result (λ f. f ≡ self_delimited_fault bytes.now) }
 {
     match read_len(&bytes[header.used..]) {
@@ -117,8 +115,7 @@ fn read_body(header: Header<'_>, bytes: &[u8], last: u16, width: usize) -> Resul
     requires within { header.used + width ≤ length bytes.now }
     ensures within { IfOk result (λ p. p.size ≤ length bytes.now) }
     ensures fits { IfOk result (λ p. SelfFits p (take p.size bytes.now)) }
-    ensures none { IfErr result (λ f. (v : PacketValue) (s : Shape) (used : ℕ)
-        → BeginsWithSelf v s used bytes.now → ⊥) }
+    ensures none { IfErr result (λ f. BeginsWithNone bytes.now) }
     ensures fault { IfErr result (λ f. f ≡ self_delimited_fault bytes.now) }
 {
     let size = header.used + width + header.body_size(last) + header.tail;

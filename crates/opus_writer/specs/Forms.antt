@@ -1,6 +1,8 @@
--- The bytes of the written forms before the frames.
+-- The written forms of a packet, and their bytes before the frames.
 use Rattle.std.specs.Prelude.{ℕ, Bool, if◌then◌else◌, List, length, map}
 use Rattle.opus_packet.specs.Value.{PacketValue}
+use Rattle.opus_packet.specs.Tail.{kept_bytes}
+use Rattle.opus_packet.specs.Read.{PacketRead}
 use Rattle.opus_packet.specs.Header.{header_bytes}
 use Rattle.opus_packet.specs.PacketGrammar.{header_for}
 use Rattle.opus_packet.specs.SelfGrammar.{self_header_bytes}
@@ -36,6 +38,14 @@ keep_header v tail = header_bytes (header_for v (keep_shape (map length v.frames
 abbrev pub keep_self_header : PacketValue → ℕ → List ℕ
 keep_self_header v tail = self_header_bytes v (keep_shape (map length v.frames) tail)
 
+-- the kept form of a packet: its value with its own padding bytes
+abbrev pub kept_of : PacketRead → List ℕ
+kept_of p = kept_form p.value (kept_bytes p.tail)
+
+-- the same, self-delimited
+abbrev pub kept_self_of : PacketRead → List ℕ
+kept_self_of p = kept_self_delimited p.value (kept_bytes p.tail)
+
 -- the forms and their headers in either framing: self-delimited, or not
 
 abbrev pub canonical_in : Bool → PacketValue → List ℕ
@@ -49,3 +59,6 @@ kept_in own v tail = if own then kept_self_delimited v tail else kept_form v tai
 
 abbrev pub keep_header_in : Bool → PacketValue → ℕ → List ℕ
 keep_header_in own v tail = if own then keep_self_header v tail else keep_header v tail
+
+abbrev pub kept_of_in : Bool → PacketRead → List ℕ
+kept_of_in own p = kept_in own p.value (kept_bytes p.tail)

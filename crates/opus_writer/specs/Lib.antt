@@ -1,3 +1,4 @@
 pub mod Forms
 pub mod Padded
 pub mod Puts
+pub mod Pushes

@@ -8,6 +8,7 @@ ghost use Rattle.opus_packet.specs.Value.{max_frame};
 ghost use Rattle.opus_packet.specs.Header.{padding_length, count_byte, count_and_padding, header_bytes};
 ghost use Rattle.opus_packet.specs.PacketGrammar.{header_in};
 ghost use Rattle.opus_packet.specs.Tail.{max_tail};
+ghost use Rattle.opus_writer.specs.Pushes.{Pushes};
 ghost use Rattle.opus_writer.specs.Forms.{canonical_header, canonical_self_header, canonical_header_in, keep_header, keep_self_header, keep_header_in};
 
 use arrayvec::ArrayVec;
@@ -44,10 +45,8 @@ pub fn push_keep_header<const N: usize>(
     tail: u32,
     header: &mut ArrayVec<u8, N>,
 )
-    requires tail { tail ≤ max_tail }
-    requires room { array_vec_len header.old + 355 ≤ N }
-    ensures bytes { header.new.items ≡ header.old.items ++ keep_header packet.now.value tail }
-    ensures most { array_vec_len header.new ≤ array_vec_len header.old + 355 }
+    requires { (tail ≤ max_tail) × (array_vec_len header.old + 355 ≤ N) }
+    ensures { Pushes header.old.items header.new.items (keep_header packet.now.value tail) 355 }
 {
     let lens = packet.lens();
     push_header(packet.toc(), lens.keep_shape(tail), &lens, header);
@@ -60,10 +59,8 @@ pub fn push_keep_self_header<const N: usize>(
     tail: u32,
     header: &mut ArrayVec<u8, N>,
 )
-    requires tail { tail ≤ max_tail }
-    requires room { array_vec_len header.old + 357 ≤ N }
-    ensures bytes { header.new.items ≡ header.old.items ++ keep_self_header packet.now.value tail }
-    ensures most { array_vec_len header.new ≤ array_vec_len header.old + 357 }
+    requires { (tail ≤ max_tail) × (array_vec_len header.old + 357 ≤ N) }
+    ensures { Pushes header.old.items header.new.items (keep_self_header packet.now.value tail) 357 }
 {
     push_keep_header(packet, tail, header);
     push_length(packet.lens().last_len(), header);
@@ -77,8 +74,7 @@ pub(crate) fn push_canon_in<const N: usize>(
     header: &mut ArrayVec<u8, N>,
 )
     requires { array_vec_len header.old + 98 ≤ N }
-    ensures bytes { header.new.items
-        ≡ header.old.items ++ canonical_header_in own packet.now.value }
+    ensures bytes { header.new.items ≡ header.old.items ++ canonical_header_in own packet.now.value }
     ensures most { array_vec_len header.new ≤ array_vec_len header.old + 98 }
 {
     if own {
@@ -96,11 +92,8 @@ pub(crate) fn push_keep_in<const N: usize>(
     tail: u32,
     header: &mut ArrayVec<u8, N>,
 )
-    requires tail { tail ≤ max_tail }
-    requires room { array_vec_len header.old + 357 ≤ N }
-    ensures bytes { header.new.items
-        ≡ header.old.items ++ keep_header_in own packet.now.value tail }
-    ensures most { array_vec_len header.new ≤ array_vec_len header.old + 357 }
+    requires { (tail ≤ max_tail) × (array_vec_len header.old + 357 ≤ N) }
+    ensures { Pushes header.old.items header.new.items (keep_header_in own packet.now.value tail) 357 }
 {
     if own {
         push_keep_self_header(packet, tail, header);
@@ -123,8 +116,7 @@ fn push_header<const N: usize>(
     requires room { array_vec_len header.old + 96 + length (padding_length shape.pad) ≤ N }
     ensures bytes { header.new.items
         ≡ header.old.items ++ header_bytes (header_in toc.config toc.stereo shape lens.now) }
-    ensures most { array_vec_len header.new
-        ≤ array_vec_len header.old + 96 + length (padding_length shape.pad) }
+    ensures most { array_vec_len header.new ≤ array_vec_len header.old + 96 + length (padding_length shape.pad) }
 {
     header.push(Toc::new(toc.config, toc.stereo, shape.code).to_byte());
     push_count(shape, lens.len() as u8, header);
@@ -140,8 +132,7 @@ fn push_count<const N: usize>(shape: Shape, count: u8, header: &mut ArrayVec<u8,
     requires pad { shape.pad < padding_limit }
     requires room { array_vec_len header.old + 1 + length (padding_length shape.pad) ≤ N }
     ensures bytes { header.new.items ≡ header.old.items ++ count_and_padding shape count }
-    ensures most { array_vec_len header.new
-        ≤ array_vec_len header.old + 1 + length (padding_length shape.pad) }
+    ensures most { array_vec_len header.new ≤ array_vec_len header.old + 1 + length (padding_length shape.pad) }
 {
     if shape.code == 3 {
         header.push(count_byte(shape, count));
@@ -181,8 +172,7 @@ fn push_pad<const N: usize>(pad: u32, header: &mut ArrayVec<u8, N>)
 pub fn push_lens<const N: usize>(lens: &Lens<'_>, header: &mut ArrayVec<u8, N>)
     requires some { 1 ≤ length lens.now }
     requires room { array_vec_len header.old + 94 ≤ N }
-    ensures bytes { header.new.items
-        ≡ header.old.items ++ flat_map length_bytes (take (length lens.now - 1) lens.now) }
+    ensures bytes { header.new.items ≡ header.old.items ++ flat_map length_bytes (take (length lens.now - 1) lens.now) }
     ensures most { array_vec_len header.new ≤ array_vec_len header.old + 94 }
 {
     match lens.spelled() {
@@ -195,8 +185,7 @@ pub fn push_lens<const N: usize>(lens: &Lens<'_>, header: &mut ArrayVec<u8, N>)
 fn push_listed<const N: usize>(lens: &Lens<'_>, header: &mut ArrayVec<u8, N>)
     requires some { 1 ≤ length lens.now }
     requires room { array_vec_len header.old + 94 ≤ N }
-    ensures bytes { header.new.items
-        ≡ header.old.items ++ flat_map length_bytes (take (length lens.now - 1) lens.now) }
+    ensures bytes { header.new.items ≡ header.old.items ++ flat_map length_bytes (take (length lens.now - 1) lens.now) }
     ensures most { array_vec_len header.new ≤ array_vec_len header.old + 94 }
 {
     let mut rest = lens.again();

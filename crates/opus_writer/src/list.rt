@@ -1,9 +1,9 @@
 //! The written forms appended to a list: a header, the frames, and the padding bytes where they are kept.
 ghost use Rattle.std.specs.Prelude.{◌≡◌, ◌+◌, ◌<◌, ◌≤◌, ◌++◌, length, vec_len, vec_capacity, OnOk, OnErr};
 ghost use Rattle.opus_packet.specs.Value.{max_body};
-ghost use Rattle.opus_packet.specs.Tail.{max_tail, IsKept, kept_bytes};
-ghost use Rattle.opus_packet.specs.Canonical.{canonical, canonical_self_delimited, kept_form, kept_self_delimited};
-ghost use Rattle.opus_writer.specs.Forms.{canonical_in, kept_in};
+ghost use Rattle.opus_packet.specs.Tail.{max_tail, IsKept};
+ghost use Rattle.opus_packet.specs.Canonical.{canonical, canonical_self_delimited};
+ghost use Rattle.opus_writer.specs.Forms.{kept_of, kept_self_of, canonical_in, kept_of_in};
 
 use crate::header::{push_canon_in, push_keep_in};
 use crate::size::tail_bytes;
@@ -16,8 +16,7 @@ use opus_packet::Packet;
 pub fn write_canon(packet: &Packet<'_>, out: &mut Vec<u8>) -> Result<(), NoMemory>
     ensures ok { OnOk result (out.new.items ≡ out.old.items ++ canonical packet.now.value) }
     ensures err { OnErr result (out.new.items ≡ out.old.items) }
-    ensures full { OnErr result
-        (vec_capacity out.old < vec_len out.old + length (canonical packet.now.value)) }
+    ensures full { OnErr result (vec_capacity out.old < vec_len out.old + length (canonical packet.now.value)) }
     ensures capacity { vec_capacity out.old ≤ vec_capacity out.new }
 {
     append_canon(packet, false, out)
@@ -25,12 +24,10 @@ pub fn write_canon(packet: &Packet<'_>, out: &mut Vec<u8>) -> Result<(), NoMemor
 
 /// Appends the canonical self-delimited form (RFC 6716, Appendix B), which is spelled in the same cases.
 pub fn write_canon_self(packet: &Packet<'_>, out: &mut Vec<u8>) -> Result<(), NoMemory>
-    ensures ok { OnOk result
-        (out.new.items ≡ out.old.items ++ canonical_self_delimited packet.now.value) }
+    ensures ok { OnOk result (out.new.items ≡ out.old.items ++ canonical_self_delimited packet.now.value) }
     ensures err { OnErr result (out.new.items ≡ out.old.items) }
     ensures full { OnErr result
-        (vec_capacity out.old < vec_len out.old
-        + length (canonical_self_delimited packet.now.value)) }
+        (vec_capacity out.old < vec_len out.old + length (canonical_self_delimited packet.now.value)) }
     ensures capacity { vec_capacity out.old ≤ vec_capacity out.new }
 {
     append_canon(packet, true, out)
@@ -40,12 +37,9 @@ pub fn write_canon_self(packet: &Packet<'_>, out: &mut Vec<u8>) -> Result<(), No
 /// own padding bytes behind a padding length of the fewest bytes.
 pub fn write_keep(packet: &Packet<'_>, out: &mut Vec<u8>) -> Result<(), NoMemory>
     requires { IsKept packet.now.tail }
-    ensures ok { OnOk result
-        (out.new.items ≡ out.old.items ++ kept_form packet.now.value (kept_bytes packet.now.tail)) }
+    ensures ok { OnOk result (out.new.items ≡ out.old.items ++ kept_of packet.now) }
     ensures err { OnErr result (out.new.items ≡ out.old.items) }
-    ensures full { OnErr result
-        (vec_capacity out.old < vec_len out.old
-        + length (kept_form packet.now.value (kept_bytes packet.now.tail))) }
+    ensures full { OnErr result (vec_capacity out.old < vec_len out.old + length (kept_of packet.now)) }
     ensures capacity { vec_capacity out.old ≤ vec_capacity out.new }
 {
     append_kept(packet, false, out)
@@ -54,12 +48,9 @@ pub fn write_keep(packet: &Packet<'_>, out: &mut Vec<u8>) -> Result<(), NoMemory
 /// Appends the kept self-delimited form, which is spelled in the same cases.
 pub fn write_keep_self(packet: &Packet<'_>, out: &mut Vec<u8>) -> Result<(), NoMemory>
     requires { IsKept packet.now.tail }
-    ensures ok { OnOk result
-        (out.new.items ≡ out.old.items ++ kept_self_delimited packet.now.value (kept_bytes packet.now.tail)) }
+    ensures ok { OnOk result (out.new.items ≡ out.old.items ++ kept_self_of packet.now) }
     ensures err { OnErr result (out.new.items ≡ out.old.items) }
-    ensures full { OnErr result
-        (vec_capacity out.old < vec_len out.old
-        + length (kept_self_delimited packet.now.value (kept_bytes packet.now.tail))) }
+    ensures full { OnErr result (vec_capacity out.old < vec_len out.old + length (kept_self_of packet.now)) }
     ensures capacity { vec_capacity out.old ≤ vec_capacity out.new }
 {
     append_kept(packet, true, out)
@@ -70,8 +61,7 @@ pub fn write_keep_self(packet: &Packet<'_>, out: &mut Vec<u8>) -> Result<(), NoM
 fn append_canon(packet: &Packet<'_>, own: bool, out: &mut Vec<u8>) -> Result<(), NoMemory>
     ensures ok { OnOk result (out.new.items ≡ out.old.items ++ canonical_in own packet.now.value) }
     ensures err { OnErr result (out.new.items ≡ out.old.items) }
-    ensures full { OnErr result
-        (vec_capacity out.old < vec_len out.old + length (canonical_in own packet.now.value)) }
+    ensures full { OnErr result (vec_capacity out.old < vec_len out.old + length (canonical_in own packet.now.value)) }
     ensures capacity { vec_capacity out.old ≤ vec_capacity out.new }
 {
     let mut header: ArrayVec<u8, 98> = ArrayVec::new();
@@ -83,12 +73,9 @@ fn append_canon(packet: &Packet<'_>, own: bool, out: &mut Vec<u8>) -> Result<(),
 #[inline(always)]
 fn append_kept(packet: &Packet<'_>, own: bool, out: &mut Vec<u8>) -> Result<(), NoMemory>
     requires { IsKept packet.now.tail }
-    ensures ok { OnOk result
-        (out.new.items ≡ out.old.items ++ kept_in own packet.now.value (kept_bytes packet.now.tail)) }
+    ensures ok { OnOk result (out.new.items ≡ out.old.items ++ kept_of_in own packet.now) }
     ensures err { OnErr result (out.new.items ≡ out.old.items) }
-    ensures full { OnErr result
-        (vec_capacity out.old < vec_len out.old
-        + length (kept_in own packet.now.value (kept_bytes packet.now.tail))) }
+    ensures full { OnErr result (vec_capacity out.old < vec_len out.old + length (kept_of_in own packet.now)) }
     ensures capacity { vec_capacity out.old ≤ vec_capacity out.new }
 {
     let tail = tail_bytes(packet);
@@ -102,12 +89,9 @@ fn append(header: &[u8], body: &[u8], tail: &[u8], out: &mut Vec<u8>) -> Result<
     requires header { length header.now ≤ 360 }
     requires body { length body.now ≤ max_body }
     requires tail { length tail.now ≤ max_tail }
-    ensures ok { OnOk result
-        (out.new.items ≡ out.old.items ++ (header.now ++ body.now ++ tail.now)) }
+    ensures ok { OnOk result (out.new.items ≡ out.old.items ++ (header.now ++ body.now ++ tail.now)) }
     ensures err { OnErr result (out.new.items ≡ out.old.items) }
-    ensures full { OnErr result
-        (vec_capacity out.old < vec_len out.old
-        + length (header.now ++ body.now ++ tail.now)) }
+    ensures full { OnErr result (vec_capacity out.old < vec_len out.old + length (header.now ++ body.now ++ tail.now)) }
     ensures capacity { vec_capacity out.old ≤ vec_capacity out.new }
 {
     out.reserve(header.len() + body.len() + tail.len())?;

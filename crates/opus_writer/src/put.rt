@@ -1,9 +1,9 @@
 //! The written forms to a sink: a few pieces, with no list between.
-ghost use Rattle.opus_packet.specs.Tail.{IsKept, kept_bytes};
-ghost use Rattle.opus_packet.specs.Canonical.{canonical, canonical_self_delimited, kept_form, kept_self_delimited};
+ghost use Rattle.opus_packet.specs.Tail.{IsKept};
+ghost use Rattle.opus_packet.specs.Canonical.{canonical, canonical_self_delimited};
 ghost use Rattle.std.specs.Prelude.{◌++◌};
 ghost use Rattle.opus_io.specs.Sink.{SinkCause, Onward};
-ghost use Rattle.opus_writer.specs.Forms.{canonical_in, kept_in};
+ghost use Rattle.opus_writer.specs.Forms.{kept_of, kept_self_of, canonical_in, kept_of_in};
 ghost use Rattle.opus_writer.specs.Puts.{Puts};
 
 use crate::header::{push_canon_in, push_keep_in};
@@ -16,8 +16,7 @@ use opus_packet::Packet;
 /// memory of its own.
 #[inline(always)]
 pub fn put_canon<O: Sink>(packet: &Packet<'_>, sink: &mut O) -> Result<(), SinkStop>
-    ensures bytes { Puts (O.contents sink.old) (O.contents sink.new)
-        (canonical packet.now.value) result }
+    ensures bytes { Puts (O.contents sink.old) (O.contents sink.new) (canonical packet.now.value) result }
     ensures cause { SinkCause (O.faults sink.old) (O.faults sink.new)
         (O.refusals sink.old) (O.refusals sink.new) result }
     ensures onward { Onward (O.onto sink.old) (O.onto sink.new) (O.handed sink.old) (O.handed sink.new) }
@@ -41,8 +40,7 @@ pub fn put_canon_self<O: Sink>(packet: &Packet<'_>, sink: &mut O) -> Result<(), 
 #[inline(always)]
 pub fn put_keep<O: Sink>(packet: &Packet<'_>, sink: &mut O) -> Result<(), SinkStop>
     requires { IsKept packet.now.tail }
-    ensures bytes { Puts (O.contents sink.old) (O.contents sink.new)
-        (kept_form packet.now.value (kept_bytes packet.now.tail)) result }
+    ensures bytes { Puts (O.contents sink.old) (O.contents sink.new) (kept_of packet.now) result }
     ensures cause { SinkCause (O.faults sink.old) (O.faults sink.new)
         (O.refusals sink.old) (O.refusals sink.new) result }
     ensures onward { Onward (O.onto sink.old) (O.onto sink.new) (O.handed sink.old) (O.handed sink.new) }
@@ -54,8 +52,7 @@ pub fn put_keep<O: Sink>(packet: &Packet<'_>, sink: &mut O) -> Result<(), SinkSt
 #[inline(always)]
 pub fn put_keep_self<O: Sink>(packet: &Packet<'_>, sink: &mut O) -> Result<(), SinkStop>
     requires { IsKept packet.now.tail }
-    ensures bytes { Puts (O.contents sink.old) (O.contents sink.new)
-        (kept_self_delimited packet.now.value (kept_bytes packet.now.tail)) result }
+    ensures bytes { Puts (O.contents sink.old) (O.contents sink.new) (kept_self_of packet.now) result }
     ensures cause { SinkCause (O.faults sink.old) (O.faults sink.new)
         (O.refusals sink.old) (O.refusals sink.new) result }
     ensures onward { Onward (O.onto sink.old) (O.onto sink.new) (O.handed sink.old) (O.handed sink.new) }
@@ -66,8 +63,7 @@ pub fn put_keep_self<O: Sink>(packet: &Packet<'_>, sink: &mut O) -> Result<(), S
 // Writes the canonical form, self-delimited where `own` says so.
 #[inline(always)]
 fn put_canon_in<O: Sink>(packet: &Packet<'_>, own: bool, sink: &mut O) -> Result<(), SinkStop>
-    ensures bytes { Puts (O.contents sink.old) (O.contents sink.new)
-        (canonical_in own packet.now.value) result }
+    ensures bytes { Puts (O.contents sink.old) (O.contents sink.new) (canonical_in own packet.now.value) result }
     ensures cause { SinkCause (O.faults sink.old) (O.faults sink.new)
         (O.refusals sink.old) (O.refusals sink.new) result }
     ensures onward { Onward (O.onto sink.old) (O.onto sink.new) (O.handed sink.old) (O.handed sink.new) }
@@ -81,8 +77,7 @@ fn put_canon_in<O: Sink>(packet: &Packet<'_>, own: bool, sink: &mut O) -> Result
 #[inline(always)]
 fn put_keep_in<O: Sink>(packet: &Packet<'_>, own: bool, sink: &mut O) -> Result<(), SinkStop>
     requires { IsKept packet.now.tail }
-    ensures bytes { Puts (O.contents sink.old) (O.contents sink.new)
-        (kept_in own packet.now.value (kept_bytes packet.now.tail)) result }
+    ensures bytes { Puts (O.contents sink.old) (O.contents sink.new) (kept_of_in own packet.now) result }
     ensures cause { SinkCause (O.faults sink.old) (O.faults sink.new)
         (O.refusals sink.old) (O.refusals sink.new) result }
     ensures onward { Onward (O.onto sink.old) (O.onto sink.new) (O.handed sink.old) (O.handed sink.new) }
@@ -96,8 +91,7 @@ fn put_keep_in<O: Sink>(packet: &Packet<'_>, own: bool, sink: &mut O) -> Result<
 // Writes one piece behind another.
 #[inline(always)]
 fn put_two<O: Sink>(first: &[u8], second: &[u8], sink: &mut O) -> Result<(), SinkStop>
-    ensures bytes { Puts (O.contents sink.old) (O.contents sink.new)
-        (first.now ++ second.now) result }
+    ensures bytes { Puts (O.contents sink.old) (O.contents sink.new) (first.now ++ second.now) result }
     ensures cause { SinkCause (O.faults sink.old) (O.faults sink.new)
         (O.refusals sink.old) (O.refusals sink.new) result }
     ensures onward { Onward (O.onto sink.old) (O.onto sink.new) (O.handed sink.old) (O.handed sink.new) }
@@ -114,8 +108,7 @@ fn put_three<O: Sink>(
     third: &[u8],
     sink: &mut O,
 ) -> Result<(), SinkStop>
-    ensures bytes { Puts (O.contents sink.old) (O.contents sink.new)
-        (first.now ++ second.now ++ third.now) result }
+    ensures bytes { Puts (O.contents sink.old) (O.contents sink.new) (first.now ++ second.now ++ third.now) result }
     ensures cause { SinkCause (O.faults sink.old) (O.faults sink.new)
         (O.refusals sink.old) (O.refusals sink.new) result }
     ensures onward { Onward (O.onto sink.old) (O.onto sink.new) (O.handed sink.old) (O.handed sink.new) }

@@ -3,8 +3,8 @@ ghost use Rattle.std.specs.Prelude.{◌≡◌, ◌+◌, ◌≤◌, length, map};
 ghost use Rattle.opus_flen.specs.FrameLength.{length_bytes};
 ghost use Rattle.opus_packet.specs.SelfGrammar.{last_length};
 ghost use Rattle.opus_packet.specs.Tail.{IsKept, kept_bytes, max_tail};
-ghost use Rattle.opus_packet.specs.Canonical.{canonical, canonical_self_delimited, kept_form, kept_self_delimited};
-ghost use Rattle.opus_writer.specs.Forms.{max_canonical, max_canonical_self, max_kept, max_kept_self};
+ghost use Rattle.opus_packet.specs.Canonical.{canonical, canonical_self_delimited};
+ghost use Rattle.opus_writer.specs.Forms.{max_canonical, max_canonical_self, max_kept, max_kept_self, kept_of, kept_self_of};
 
 use opus_packet::{Packet, Tail};
 
@@ -31,7 +31,7 @@ pub fn canon_self_size(packet: &Packet<'_>) -> u32
 #[inline(always)]
 pub fn keep_size(packet: &Packet<'_>) -> u32
     requires { IsKept packet.now.tail }
-    ensures size { result ≡ length (kept_form packet.now.value (kept_bytes packet.now.tail)) }
+    ensures size { result ≡ length (kept_of packet.now) }
     ensures most { result ≤ max_kept }
 {
     let lens = packet.lens();
@@ -43,8 +43,7 @@ pub fn keep_size(packet: &Packet<'_>) -> u32
 #[inline(always)]
 pub fn keep_self_size(packet: &Packet<'_>) -> u32
     requires { IsKept packet.now.tail }
-    ensures size { result
-        ≡ length (kept_self_delimited packet.now.value (kept_bytes packet.now.tail)) }
+    ensures size { result ≡ length (kept_self_of packet.now) }
     ensures most { result ≤ max_kept_self }
 {
     keep_size(packet) + last_width(packet)
@@ -53,8 +52,7 @@ pub fn keep_self_size(packet: &Packet<'_>) -> u32
 // Bytes that spell the last frame's length.
 #[inline(always)]
 fn last_width(packet: &Packet<'_>) -> u32
-    ensures size { result
-        ≡ length (length_bytes (last_length (map length packet.now.value.frames))) }
+    ensures size { result ≡ length (length_bytes (last_length (map length packet.now.value.frames))) }
     ensures most { result ≤ 2 }
 {
     if packet.lens().last_len() < 252 { 1 } else { 2 }
