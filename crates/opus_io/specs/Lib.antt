@@ -1,8 +1,7 @@
 pub mod Cause
 pub mod Source
 pub mod Sink
-pub mod FromRead
-pub mod ToWrite
+pub mod Counted
 pub mod Steady
 pub mod Reader
 pub mod Memory

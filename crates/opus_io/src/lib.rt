@@ -5,10 +5,12 @@
 
 mod bytes;
 mod copy;
+mod counted;
 mod endless;
 mod from_read;
 mod memory;
 mod no_memory;
+mod owned;
 mod reader;
 mod script;
 mod sink;
@@ -20,10 +22,12 @@ mod to_write;
 mod whole;
 
 pub use bytes::Bytes;
+pub use counted::Counted;
 pub use endless::EndlessSource;
 pub use from_read::FromRead;
 pub use memory::{MemorySink, MemorySource};
 pub use no_memory::NoMemory;
+pub use owned::Owned;
 pub use reader::{InStop, Reader};
 pub use sink::{Sink, SinkStop};
 pub use source::{Failed, Source};

@@ -4,33 +4,19 @@ ghost use Rattle.std.specs.Io.{WritesAtMost};
 ghost use Rattle.std.specs.Io.KnownBytes.{WriteAppends};
 ghost use Rattle.opus_io.specs.Cause.{next_count};
 ghost use Rattle.opus_io.specs.Sink.{SinkCause, Onward};
-ghost use Rattle.opus_io.specs.ToWrite.{inner_writer, write_errors};
+ghost use Rattle.opus_io.specs.Counted.{inner_of, errors_of};
 
-use crate::{Sink, SinkStop};
+use crate::{Counted, Sink, SinkStop};
 use std::io::Write;
 
 /// Any writer of std as a sink. It counts the writer's errors, up to 2^64 - 1 of them.
 /// A writer that takes no byte of a piece has met an error too.
-#[derive(Drop)]
-pub struct ToWrite<W> {
-    inner: W,
-    errors: u64,
-}
-
-impl<W> ToWrite<W> {
-    /// A sink over `inner`, with no error counted yet.
-    pub fn new(inner: W) -> ToWrite<W>
-        ensures inner { inner_writer result ≡ inner }
-        ensures errors { write_errors result ≡ 0 }
-    {
-        ToWrite { inner, errors: 0 }
-    }
-}
+pub type ToWrite<W> = Counted<W>;
 
 impl<W: Write> Sink for ToWrite<W> {
-    ghost contents = { λ s. W.contents (inner_writer s) };
+    ghost contents = { λ s. W.contents (inner_of s) };
 
-    ghost faults = { write_errors };
+    ghost faults = { errors_of };
 
     ghost refusals = { λ _. 0 };
 
@@ -38,15 +24,15 @@ impl<W: Write> Sink for ToWrite<W> {
         requires { 0 < length piece.now }
         ensures some { IfOk result (λ n. 0 < n) }
         ensures count { WritesAtMost result piece.now }
-        ensures bytes { WriteAppends (W.contents (inner_writer self.old)) (W.contents (inner_writer self.new)) result piece.now }
-        ensures cause { SinkCause (write_errors self.old) (write_errors self.new) 0 0 result }
+        ensures bytes { WriteAppends (W.contents (inner_of self.old)) (W.contents (inner_of self.new)) result piece.now }
+        ensures cause { SinkCause (errors_of self.old) (errors_of self.new) 0 0 result }
         ensures onward { Onward 0 0 None None }
-        ensures counted { OnErr result (write_errors self.new ≡ next_count (write_errors self.old)) }
+        ensures counted { OnErr result (errors_of self.new ≡ next_count (errors_of self.old)) }
     {
         match self.inner.write(piece) {
             Ok(count) if count > 0 => Ok(count),
             _ => {
-                self.errors = self.errors.saturating_add(1);
+                self.count_error();
                 Err(SinkStop::Failed)
             }
         }

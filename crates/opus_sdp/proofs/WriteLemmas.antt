@@ -1,6 +1,7 @@
 -- Parameters that are printed one after another.
-use Rattle.std.proofs.Common.{◌≡◌, ◌<◌, ◌≤◌, ℕ, zero, suc, ◌+◌, List, [], ◌∷◌, ◌++◌, length, get_or, take, take_all, Option, None, Some, append_assoc, append-nil, refl, sym, ap, ◌∙◌, arith}
+use Rattle.std.proofs.Common.{◌≡◌, ◌<◌, ◌≤◌, ℕ, zero, suc, ◌+◌, List, [], ◌∷◌, ◌++◌, length, length-append, get_or, take, take_all, Vec, Global, Option, None, Some, append_assoc, append-nil, refl, sym, ap, ◌∙◌, arith}
 use Rattle.std.specs.List.{filter_map, zip}
+use Rattle.std.specs.Prelude.{vec_capacity}
 use Rattle.std.specs.Fmt.{decimal}
 use Rattle.std.proofs.lemmas.List.Elements.{filter_map-append}
 use Rattle.opus_sdp.specs.Table.{Row, row, table, row_at}
@@ -84,6 +85,16 @@ rows-all numbers =
     let size = length-table in
     let short = zip-short table numbers in
     ap (filter_map row_param) (take_all 8 (zip table numbers) (omega arith))
+
+-- there is room for this many bytes more
+abbrev pub Room : Vec ℕ Global → ℕ → Type 0
+Room out more = length out.items + more ≤ vec_capacity out
+
+-- behind an appended part there is room for the rest
+pub room-behind : (old new : Vec ℕ Global) (part : List ℕ) (rest : ℕ) → new.items ≡ old.items ++ part → vec_capacity old ≤ vec_capacity new
+    → Room old (length part + rest) → Room new rest
+room-behind old new part rest is grown room =
+    omega (arith, room, ap length is, length-append old.items part, grown)
 
 -- what is appended in three parts
 pub three-parts : (old a b c d first second third : List ℕ) → first ≡ old ++ a → second ≡ first ++ b → third ≡ second ++ (c ++ d)
