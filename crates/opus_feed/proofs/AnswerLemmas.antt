@@ -1,12 +1,14 @@
 -- What a feed answers, by where it stands.
-use Rattle.std.proofs.Common.{◌≡◌, ℕ, ◌+◌, ◌<◌, ◌≤◌, List, [], ◌++◌, length, sym, ap, ◌∙◌, subst, arith, length-append}
-use Rattle.std.proofs.lemmas.List.{append-nil}
+use Rattle.std.proofs.Common.{◌≡◌, ℕ, zero, suc, ◌+◌, ◌<◌, ◌≤◌, List, [], ◌++◌, length, sym, ap, ◌∙◌, subst, arith, length-append}
+use Rattle.std.proofs.lemmas.List.{append-nil, take-append-le}
 use Rattle.opus_flen.specs.FrameLength.{length_bytes}
 use Rattle.opus_packet.specs.declared.fault.Fault.{Fault}
 use Rattle.opus_packet.specs.Header.{header_bytes}
 use Rattle.opus_packet.specs.HeaderRead.{whole, partial, header_read}
 use Rattle.opus_packet.specs.PacketPrefix.{AreBytes, IsPacketPrefix, CanBecome, most_bytes}
-use Rattle.opus_packet.specs.SelfGrammar.{BeginsWithSelf}
+use Rattle.opus_packet.specs.Value.{PacketValue}
+use Rattle.opus_packet.specs.declared.shape.Shape.{Shape}
+use Rattle.opus_packet.specs.SelfGrammar.{BeginsWithSelf, SpellsSelf}
 use Rattle.opus_packet.specs.SelfPrefix.{sized, unsized, self_header_read, self_size, IsSelfDelimitedPrefix, CanBecomeSelf}
 use Rattle.opus_self.specs.BecomesSelf.{BeginsWithNone}
 use Rattle.opus_self.specs.ValueBehind.{value_behind}
@@ -19,7 +21,9 @@ use Rattle.opus_feed.specs.Places.{IsOpening, IsFilling, IsFull, IsSteady}
 use Rattle.opus_feed.specs.Packets.{Refuses}
 use Rattle.opus_feed.specs.Stands.{Holds, Takes, StandsAt, fault_at}
 use Rattle.opus_feed.specs.Steps.{step_at, IsReading, IsWhole}
-use Rattle.opus_feed.specs.Answers.{Answers, Ends}
+use Rattle.opus_feed.specs.Answers.{Answers, Ends, TakesSome}
+use Rattle.opus_feed.specs.declared.step.Step.{Step}
+use Rattle.opus_feed.specs.declared.step.Step.TheVariants.{More, Done, Refused}
 use Rattle.opus_feed.specs.declared.framing.Framing.{Framing}
 use Rattle.opus_feed.specs.declared.framing.Framing.TheVariants.{Whole, SelfDelimited}
 use Rattle.opus_feed.specs.declared.padding.Padding.{Padding}
@@ -167,3 +171,31 @@ ends_at SelfDelimited padding Full h b used before bytes is are at moved =
     begins_once v _ s _ size _ bytes begins (full_begins padding h b bytes is are at)
     ∙ sym (full_size padding h b is) ∙ moved tt
 ends_at framing padding (Failed rule) h b used before bytes is are at moved = tt
+
+-- what stands where more can come
+pub reading_answers : (framing : Framing) (padding : Padding) (place : Place) (h : Head) (b : Body) (bytes : List ℕ)
+    → IsSteady framing padding place h b → AreBytes bytes → StandsAt framing place h b bytes → IsReading place
+    → Answers framing bytes More
+reading_answers framing padding (Opening stage) h b bytes is are at reading = answers framing padding (Opening stage) h b 0 bytes is are at
+reading_answers framing padding Filling h b bytes is are at reading = answers framing padding Filling h b 0 bytes is are at
+reading_answers framing padding Full h b bytes is are at reading = absurd reading
+reading_answers framing padding (Failed rule) h b bytes is are at reading = absurd reading
+
+-- a packet that ends in a front begins the front
+begins_front : (v : PacketValue) (s : Shape) (size : ℕ) (bytes piece : List ℕ) → size ≤ length bytes
+    → BeginsWithSelf v s size (bytes ++ piece) → BeginsWithSelf v s size bytes
+begins_front v s size bytes piece fits begins = record {
+  within = fits;
+  spelled = subst (SpellsSelf v s) (take-append-le size bytes piece fits) begins.spelled;
+}
+
+-- no packet was whole before the piece, so one that ends in it has a byte of it
+pub takes_some : (framing : Framing) (bytes piece : List ℕ) (step : Step) → Answers framing bytes More
+    → Answers framing (bytes ++ piece) step → Ends (length bytes) (bytes ++ piece) step → TakesSome step
+takes_some framing bytes piece More before answer ends = tt
+takes_some Whole bytes piece (Done used) before answer ends = absurd answer
+takes_some SelfDelimited bytes piece (Done zero) before answer ends =
+    let size = ends answer.0 answer.1 answer.2 answer.3 in
+    absurd (before.1 answer.0 answer.1 answer.2 (begins_front answer.0 answer.1 answer.2 bytes piece (omega (arith, size)) answer.3))
+takes_some SelfDelimited bytes piece (Done (suc used)) before answer ends = omega arith
+takes_some framing bytes piece (Refused f) before answer ends = tt

@@ -7,6 +7,7 @@ pub mod RefuseLemmas
 pub mod FillLemmas
 pub mod OpenedLemmas
 pub mod AnswerLemmas
+pub mod ReadingLemmas
 pub mod EndLemmas
 pub mod TailLemmas
 pub mod PacketLemmas

@@ -40,6 +40,12 @@ Ends before bytes (Done used) =
     (v : PacketValue) (s : Shape) (size : ℕ) → BeginsWithSelf v s size bytes → size ≡ before + used
 Ends before bytes (Refused f) = Unit {0}
 
+-- a packet that is answered has a byte of the last piece
+abbrev pub TakesSome : Step → Type 0
+TakesSome More = Unit {0}
+TakesSome (Done used) = 1 ≤ used
+TakesSome (Refused f) = Unit {0}
+
 -- Ok: the bytes are a packet, or begin with a self-delimited one; a fault: they aren't, or don't, and it is theirs
 abbrev pub Finishes : Framing → List ℕ → Result ⊤ Fault → Type 0
 Finishes Whole bytes (Ok done) = IsSomePacket bytes

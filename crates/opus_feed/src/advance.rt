@@ -6,7 +6,7 @@ ghost use Rattle.opus_feed.specs.Holding.{held_of};
 ghost use Rattle.opus_feed.specs.Places.{IsOpening, IsSteady};
 ghost use Rattle.opus_feed.specs.Stands.{StandsAt};
 ghost use Rattle.opus_feed.specs.Steps.{IsReading, IsWhole};
-ghost use Rattle.opus_feed.specs.Advance.{Stays};
+ghost use Rattle.opus_feed.specs.Advance.{StandsOn, Stays};
 ghost use Rattle.opus_feed.specs.declared.place.Place.TheVariants.{Opening, Failed};
 
 use crate::body::Body;
@@ -30,9 +30,7 @@ pub(crate) fn advance(
 ) -> Moved
     requires { IsSteady framing padding place head.old body.old }
     ensures steady { IsSteady framing padding result.place head.new body.new }
-    ensures stands { (bytes : List ℕ) → AreBytes (bytes ++ piece.now)
-        → StandsAt framing place head.old body.old bytes
-        → StandsAt framing result.place head.new body.new (bytes ++ piece.now) }
+    ensures stands { StandsOn framing place head.old body.old piece.now result head.new body.new }
     ensures held { (bytes : List ℕ) → AreBytes (bytes ++ piece.now)
         → StandsAt framing place head.old body.old bytes → body.old.kept ≡ held_of framing padding bytes
         → body.new.kept ≡ held_of framing padding (bytes ++ piece.now) }
@@ -61,9 +59,7 @@ fn open(
 ) -> Moved
     requires { IsOpening framing padding stage head.old body.old }
     ensures steady { IsSteady framing padding result.place head.new body.new }
-    ensures stands { (bytes : List ℕ) → AreBytes (bytes ++ piece.now)
-        → StandsAt framing (Opening stage) head.old body.old bytes
-        → StandsAt framing result.place head.new body.new (bytes ++ piece.now) }
+    ensures stands { StandsOn framing (Opening stage) head.old body.old piece.now result head.new body.new }
     ensures held { (bytes : List ℕ) → AreBytes (bytes ++ piece.now)
         → StandsAt framing (Opening stage) head.old body.old bytes
         → body.new.kept ≡ held_of framing padding (bytes ++ piece.now) }

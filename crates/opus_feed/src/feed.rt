@@ -35,7 +35,7 @@ impl Feed {
     ghost use Rattle.opus_feed.specs.Feeds.{room_in, Stands, Ended, Again, Tells, AgainEnd, TellsEnd, StaysOver};
     ghost use Rattle.opus_feed.specs.declared.framing.Framing.TheVariants.{Whole};
     ghost use Rattle.opus_feed.specs.declared.place.Place.TheVariants.{Filling};
-    ghost use Rattle.opus_feed.specs.Answers.{Answers, Ends, Finishes, IsRead, IsLongest};
+    ghost use Rattle.opus_feed.specs.Answers.{Answers, Ends, TakesSome, Finishes, IsRead, IsLongest};
 
     /// A feed that took no bytes. With `Drop` it takes 61,200 bytes of memory, with `Keep` 126,735.
     pub fn new(alloc: Global, framing: Framing, padding: Padding) -> Result<Feed, NoMemory>
@@ -76,6 +76,7 @@ impl Feed {
             → Answers self.old.framing (bytes ++ piece.now) result }
         ensures ends { (bytes : List ℕ) → Stands self.old bytes → IsReading self.old.place
             → Ends (length bytes) (bytes ++ piece.now) result }
+        ensures some { (bytes : List ℕ) → Stands self.old bytes → IsReading self.old.place → TakesSome result }
         ensures tells { Tells result self.new (length piece.now) }
         ensures ended { (bytes : List ℕ) → Ended self.old bytes → Ended self.new bytes }
         ensures again { Again self.old result self.new }

@@ -120,10 +120,9 @@ impl Head {
         }
         if count / 64 % 2 == 1 {
             self.full = 0;
-            Stage::PadLength
-        } else {
-            self.behind_padding(framing)
+            return Stage::PadLength;
         }
+        self.behind_padding(framing)
     }
 
     // A byte of the padding length.

@@ -7,6 +7,7 @@ mod body;
 mod feed;
 mod framing;
 mod head;
+pub mod laws;
 mod moved;
 mod packet;
 mod padding;

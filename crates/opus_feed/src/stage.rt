@@ -1,7 +1,7 @@
 //! Which byte of a header comes next.
 
 /// How far a header was taken.
-#[derive(Clone, Copy)]
+#[derive(Clone, Copy, PartialEq, Eq)]
 pub(crate) enum Stage {
     /// Nothing was taken: the TOC byte comes next.
     Toc,

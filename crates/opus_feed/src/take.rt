@@ -32,7 +32,7 @@ impl Head {
     {
         // Where the next byte is known to be of one kind it is taken as that; then any byte is.
         let taken = self.take_first(framing, Taken { stage, used: 0 }, piece);
-        let taken = self.take_paddings(framing, taken, piece);
+        let taken = self.take_run(framing, Stage::PadLength, taken, piece);
         let taken = self.take_lengths(framing, taken, piece);
         let mut stage = taken.stage;
         let mut at = taken.used;
@@ -68,46 +68,34 @@ impl Head {
         }
     }
 
-    // Takes bytes of the padding length, where these come next.
-    #[inline(always)]
-    fn take_paddings(&mut self, framing: Framing, taken: Taken, piece: &[u8]) -> Taken
-        requires { IsTaking framing piece.now self.old taken }
-        ensures { TakesOn framing piece.now self.old taken self.new result }
-    {
-        let mut stage = taken.stage;
-        let mut at = taken.used;
-        'padding: while at < piece.len() {
-            let Stage::PadLength = stage else {
-                break;
-            };
-            stage = self.take_padding(framing, piece[at]);
-            at += 1;
-        }
-        Taken { stage, used: at }
-    }
-
     // Takes frame lengths of one byte each, where these come next.
     #[inline(always)]
     fn take_lengths(&mut self, framing: Framing, taken: Taken, piece: &[u8]) -> Taken
         requires { IsTaking framing piece.now self.old taken }
         ensures { TakesOn framing piece.now self.old taken self.new result }
     {
-        let mut stage = taken.stage;
-        let mut at = taken.used;
-        'lengths: while at < piece.len() {
-            let Stage::Length = stage else {
-                break;
-            };
-            stage = self.take_length(framing, piece[at]);
-            at += 1;
-        }
-        match stage {
-            Stage::Last if at < piece.len() => Taken {
-                stage: self.take_last(piece[at]),
-                used: at + 1,
+        let taken = self.take_run(framing, Stage::Length, taken, piece);
+        match taken.stage {
+            Stage::Last if taken.used < piece.len() => Taken {
+                stage: self.take_last(piece[taken.used]),
+                used: taken.used + 1,
             },
-            _ => Taken { stage, used: at },
+            _ => taken,
         }
+    }
+
+    // Takes bytes as long as the next one is of this stage.
+    #[inline(always)]
+    fn take_run(&mut self, framing: Framing, of: Stage, mut taken: Taken, piece: &[u8]) -> Taken
+        requires open { IsOpen of }
+        requires taking { IsTaking framing piece.now self.old taken }
+        ensures { TakesOn framing piece.now self.old taken self.new result }
+    {
+        'run: while taken.used < piece.len() && taken.stage == of {
+            taken.stage = self.next(framing, of, piece[taken.used]);
+            taken.used += 1;
+        }
+        taken
     }
 
     // Takes the byte that comes next.

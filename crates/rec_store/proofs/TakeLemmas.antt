@@ -1,16 +1,13 @@
 -- How bytes of a store are taken one after the other.
-use Rattle.std.proofs.Common.{◌≡◌, ◌≢◌, ◌⊎◌, inl, inr, ℕ, ◌+◌, ◌-◌, ◌<◌, ◌≤◌, List, [], ◌++◌, Err, Result, length, length-append, length-take, length-drop, take, drop, take-append-drop, refl, sym, ap, ◌∙◌, subst, Some, None, arith}
+use Rattle.std.proofs.Common.{◌≡◌, ◌≢◌, ◌⊎◌, inl, inr, ℕ, ◌+◌, ◌-◌, ◌<◌, ◌≤◌, List, [], ◌++◌, length, length-append, length-take, length-drop, take, drop, take-append-drop, refl, sym, ap, ◌∙◌, subst, Some, None, arith}
 use Rattle.std.proofs.lemmas.List.{length-take-le, nil_from_length, take-take}
 use Rattle.std.specs.declared.option.Option.{Option}
 use Rattle.std.specs.Io.KnownBytes.{Consumes, IsAtEnd, prepend_known}
 use Rattle.std.proofs.KnownBytes.{Consumes-nil, Consumes-kept, Consumes-trans, prepend_known-read}
-use Rattle.opus_io.specs.Reader.{ReaderState, coming, Stays, Looked}
-use Rattle.opus_io.specs.declared.reader.InStop.{InStop}
-use Rattle.opus_io.specs.declared.reader.InStop.TheVariants.{Read, Limit}
+use Rattle.opus_io.specs.Reader.{ReaderState, coming, Stays}
 use Rattle.rec_store.specs.DemoReader.{Passed, NothingComes, HeadCut}
-use Rattle.rec_store.specs.Taking.{Took, Takes}
+use Rattle.rec_store.specs.Taking.{Took}
 use Rattle.rec_store.specs.declared.stop.StoreFault.TheVariants.{StoreCut}
-use denote.Ref.{Bor}
 
 -- these bytes were passed: none yet, or the last read gave one of them
 pub record Begun (old new : ReaderState) (left left' : Option (List ℕ)) (bytes : List ℕ) : Type 0 where
@@ -36,20 +33,6 @@ Begun-looked old mid new left left' left'' bytes begun stays = record {
   limit = stays.limit ∙ begun.limit;
   in_limit = stays.in_limit;
 }
-
--- a look that stops before the bytes are all there
-pub Begun-stopped : (stop : InStop) (most : ℕ) (old mid new : ReaderState) (left left' left'' : Option (List ℕ))
-    (bytes : List ℕ) (result : Result (Bor (List ℕ)) InStop) → result ≡ Err stop → length bytes < most
-    → Begun old mid left left' bytes → Looked mid new left' left'' result
-    → Takes most old new left left'' bytes (Err stop)
-Begun-stopped Read most old mid new left left' left'' bytes result is short begun looked = (
-  record { passed = Begun-looked old mid new left left' left'' bytes begun looked.stays; short = short },
-  looked.fault is,
-)
-Begun-stopped Limit most old mid new left left' left'' bytes result is short begun looked = (
-  record { passed = Begun-looked old mid new left left' left'' bytes begun looked.stays; short = short },
-  record { all = (looked.past is).0; more = (looked.past is).1 },
-)
 
 -- the first bytes of those that are shown come next
 first_shown : (n k : ℕ) (xs shown : List ℕ) → shown ≡ take k xs → n ≤ length shown

@@ -1,5 +1,5 @@
--- The reader of an `opus_demo` store as a value, and what its calls answer.
-use Rattle.std.specs.Prelude.{◌≡◌, ◌≢◌, ℕ, ◌+◌, ◌-◌, ◌≤◌, ◌<◌, Bool, List, [], length, take, min, Ok, Err, Some, None, Result}
+-- What the calls of an `opus_demo` store's reader answer.
+use Rattle.std.specs.Prelude.{◌≡◌, ◌≢◌, ℕ, ◌+◌, ◌-◌, ◌≤◌, ◌<◌, List, [], length, take, min, Ok, Err, Some, None, Result}
 use Rattle.std.specs.declared.option.Option.{Option}
 use Rattle.std.specs.Io.KnownBytes.{Keeps, Consumes, IsAtEnd}
 use Rattle.opus_io.specs.Cause.{Rose}
@@ -11,11 +11,6 @@ use Rattle.rec_store.specs.declared.stop.StoreFault.TheVariants.{StoreCut}
 use Rattle.rec_store.specs.declared.stop.StoreStop.{StoreStop}
 use Rattle.rec_store.specs.declared.stop.StoreStop.TheVariants.{Fault, Read, Limit, NoMemory}
 use denote.Ref.{Bor}
-
--- how many bytes of the payload remain, and whether the reader may be asked for more
-pub record DemoState : Type 0 where
-  pub left : ℕ
-  pub live : Bool
 
 -- these bytes came next and were passed, and no other byte is lost
 pub record Passed (old new : ReaderState) (left left' : Option (List ℕ))

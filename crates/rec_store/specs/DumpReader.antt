@@ -1,4 +1,4 @@
--- The reader of a capture as a value, and what its calls answer.
+-- What the calls of a capture's reader answer.
 use Rattle.std.specs.Prelude.{◌≡◌, ℕ, ◌+◌, ◌≤◌, ◌<◌, Bool, true, false, List, [], length, Ok, Err, Some, None, Result}
 use Rattle.std.specs.declared.option.Option.{Option}
 use Rattle.opus_io.specs.Reader.{ReaderState}
@@ -13,11 +13,6 @@ use Rattle.rec_store.specs.declared.stop.StoreFault.{StoreFault}
 use Rattle.rec_store.specs.declared.stop.StoreFault.TheVariants.{StoreCut, DumpLine, DumpLength}
 use Rattle.rec_store.specs.declared.stop.StoreStop.{StoreStop}
 use Rattle.rec_store.specs.declared.stop.StoreStop.TheVariants.{Fault, Read, Limit, NoMemory}
-
--- whether a start answered Ok, and whether the reader may be asked for more
-pub record DumpState : Type 0 where
-  pub started : Bool
-  pub live : Bool
 
 -- a reader may be asked for more after a record, the end, or want of memory
 abbrev pub is_live : {T : Type 0} → Result T StoreStop → Bool

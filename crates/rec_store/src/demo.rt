@@ -4,14 +4,13 @@ ghost use Rattle.std.specs.Io.BufRead.{Rests};
 ghost use Rattle.std.specs.Borrow.{sem};
 ghost use Rattle.opus_io.specs.contracts.reader.Reader.{the_row};
 ghost use Rattle.rec_store.specs.DemoStore.{demo_head};
-ghost use Rattle.rec_store.specs.DemoReader.{DemoState, DemoNext, StoreCause, left_after, PieceLooked};
+ghost use Rattle.rec_store.specs.DemoReader.{DemoNext, StoreCause, left_after, PieceLooked};
 
 use crate::numbers::read_number;
 use crate::take::take_head;
 use crate::{StoreFault, StoreStop};
 use arrayvec::ArrayVec;
 use opus_io::{InStop, Reader, Source};
-use std::marker::Model;
 
 /// What stands before a record's payload.
 #[derive(Clone, Copy, Debug, PartialEq, Eq)]
@@ -42,14 +41,10 @@ impl DemoHead {
 /// It keeps neither the reader nor the source: each call that may read is handed both.
 #[derive(Drop)]
 pub struct DemoReader {
+    // Bytes of the payload that remain.
     left: u32,
+    // Whether the reader may be asked for more.
     live: bool,
-}
-
-impl Model for DemoReader {
-    ghost Value = { DemoState };
-
-    ghost view = { λ d. record { left = d.left; live = d.live } };
 }
 
 impl DemoReader {
@@ -86,6 +81,13 @@ impl DemoReader {
             self.left = head.len;
         }
         result
+    }
+
+    /// Bytes of the payload that remain.
+    pub fn left(&self) -> u32
+        ensures { result ≡ self.now.left }
+    {
+        self.left
     }
 
     /// Shows the bytes of the payload that come next. An empty slice means that none remains.
@@ -129,13 +131,6 @@ impl DemoReader {
         input.pass(n);
         let left = self.left as usize;
         self.left = (left - n) as u32;
-    }
-
-    /// Bytes of the payload that remain.
-    pub fn left(&self) -> u32
-        ensures { result ≡ self.now.left }
-    {
-        self.left
     }
 
     /// Whether more may be asked: no call answered a fault, a failed read or the limit.

@@ -2,7 +2,7 @@
 ghost use Rattle.std.specs.Prelude.{◌≡◌, ℕ, ◌+◌, ◌-◌, ◌<◌, ◌≤◌, List, [], true, false, length, vec_len, vec_capacity, IsOk, IsErrOf};
 ghost use Rattle.std.specs.Int.{w16, to_be_bytes};
 ghost use Rattle.rec_store.specs.DemoReader.{StoreCause};
-ghost use Rattle.rec_store.specs.DumpReader.{DumpState, DumpStart, DumpNext, is_live};
+ghost use Rattle.rec_store.specs.DumpReader.{DumpStart, DumpNext, is_live};
 ghost use Rattle.rec_store.specs.DumpTaking.{LineTaken, KeptTaken, RestTaken, RecordTaken, head_bytes, stop_of};
 
 use crate::take::{take_bytes, take_head};
@@ -12,7 +12,6 @@ use crate::{
 };
 use arrayvec::ArrayVec;
 use opus_io::{InStop, Reader, Source};
-use std::marker::Model;
 
 // Bytes of a packet at most.
 const MOST_PACKET: usize = 65_527;
@@ -22,14 +21,10 @@ const MOST_PACKET: usize = 65_527;
 /// It keeps neither the reader nor the source: each call is handed both.
 #[derive(Drop)]
 pub struct DumpReader {
+    // Whether a start answered Ok.
     started: bool,
+    // Whether the reader may be asked for more.
     live: bool,
-}
-
-impl Model for DumpReader {
-    ghost Value = { DumpState };
-
-    ghost view = { λ d. record { started = d.started; live = d.live } };
 }
 
 impl DumpReader {
@@ -61,6 +56,13 @@ impl DumpReader {
         self.started = result.is_ok();
         self.live = result.is_ok();
         result
+    }
+
+    /// Whether the opening was read: a start answered Ok.
+    pub fn started(&self) -> bool
+        ensures { result ≡ self.now.started }
+    {
+        self.started
     }
 
     /// Reads the next record, and puts its packet's bytes into `packet` in place of what was there. None is the end of the
@@ -95,13 +97,6 @@ impl DumpReader {
                 Err(stop)
             }
         }
-    }
-
-    /// Whether the opening was read: a start answered Ok.
-    pub fn started(&self) -> bool
-        ensures { result ≡ self.now.started }
-    {
-        self.started
     }
 
     /// Whether more may be asked: no call answered a fault, a failed read or the limit.

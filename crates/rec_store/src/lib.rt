@@ -15,6 +15,7 @@ mod dump_tests;
 pub mod laws;
 mod numbers;
 mod record;
+mod room;
 mod stop;
 mod take;
 #[cfg(test)]

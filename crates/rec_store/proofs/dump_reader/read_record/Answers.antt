@@ -11,7 +11,7 @@ returns-in-Err-clause-answer g c =
     let new = c.take_bytes.new.input in
     let left = g.S.Source.left c.args.source.now in
     let left' = g.S.Source.left c.take_bytes.new.source in
-    let most : 2 - c.args.packet.now.len ≡ 2 = omega (arith, c.args.packet.now.ok.0, ap length c.requires.none) in
+    let most : 2 - length c.args.packet.now.items ≡ 2 = omega (arith, ap length c.requires.none) in
     length_stopped c.in-Err.stop c.stopped.result old new left left' said.bytes c.stopped.ensures
     (subst (λ n. Takes n old new left left' said.bytes (Err c.in-Err.stop)) most said.takes) said.are
 
@@ -22,7 +22,7 @@ returns-then-len-lt2-clause-answer g c =
     let new = c.take_bytes.new.input in
     let left = g.S.Source.left c.args.source.now in
     let left' = g.S.Source.left c.take_bytes.new.source in
-    let most : 2 - c.args.packet.now.len ≡ 2 = omega (arith, c.args.packet.now.ok.0, ap length c.requires.none) in
+    let most : 2 - length c.args.packet.now.items ≡ 2 = omega (arith, ap length c.requires.none) in
     let items : c.take_bytes.new.into.items ≡ said.bytes = said.items ∙ ap (λ l. l ++ said.bytes) c.requires.none in
     let count : length said.bytes ≡ c.len.result =
     omega (arith, c.len.ensures, c.take_bytes.new.into.ok.0, ap length items) in

@@ -17,8 +17,8 @@ returns-in-Err-clause-answer g c =
       packet_fits = search rules;
       offset_fits = search rules;
     } in
-    let most : c.from-kept.result - 8 - c.clear.new.self.len ≡ head.length - 8 =
-    omega (arith, c.from-kept.ensures, c.clear.ensures.len) in
+    let most : c.from-kept.result - 8 - length c.clear.new.self.items ≡ head.length - 8 =
+    omega (arith, c.from-kept.ensures, ap length c.clear.ensures.items) in
     kept_stopped c.in-Err.stop c.stopped.result head old new left left' said.bytes c.stopped.ensures is
     (subst (λ n. Takes n old new left left' said.bytes (Err c.in-Err.stop)) most said.takes)
 
@@ -36,8 +36,8 @@ returns-then-len-kept-clause-answer g c =
       packet_fits = search rules;
       offset_fits = search rules;
     } in
-    let most : c.from-kept.result - 8 - c.clear.new.self.len ≡ head.length - 8 =
-    omega (arith, c.from-kept.ensures, c.clear.ensures.len) in
+    let most : c.from-kept.result - 8 - length c.clear.new.self.items ≡ head.length - 8 =
+    omega (arith, c.from-kept.ensures, ap length c.clear.ensures.items) in
     let items : c.take_bytes.new.into.items ≡ said.bytes = said.items ∙ ap (λ l. l ++ said.bytes) c.clear.ensures.items in
     let count : length said.bytes ≡ c.len.result =
     omega (arith, c.len.ensures, c.take_bytes.new.into.ok.0, ap length items) in
@@ -59,8 +59,8 @@ returns-clause-answer g c =
       packet_fits = search rules;
       offset_fits = search rules;
     } in
-    let most : c.from-kept.result - 8 - c.clear.new.self.len ≡ head.length - 8 =
-    omega (arith, c.from-kept.ensures, c.clear.ensures.len) in
+    let most : c.from-kept.result - 8 - length c.clear.new.self.items ≡ head.length - 8 =
+    omega (arith, c.from-kept.ensures, ap length c.clear.ensures.items) in
     let items : c.take_bytes.new.into.items ≡ said.bytes = said.items ∙ ap (λ l. l ++ said.bytes) c.clear.ensures.items in
     let count : length said.bytes ≡ c.len.result =
     omega (arith, c.len.ensures, c.take_bytes.new.into.ok.0, ap length items) in

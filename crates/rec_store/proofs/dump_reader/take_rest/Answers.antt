@@ -11,7 +11,7 @@ returns-in-Err-clause-answer g c =
     let new = c.take_bytes.new.input in
     let left = g.S.Source.left c.args.source.now in
     let left' = g.S.Source.left c.take_bytes.new.source in
-    let most : 8 - c.args.packet.now.len ≡ 6 = omega (arith, c.args.packet.now.ok.0, ap length c.requires.first) in
+    let most : 8 - length c.args.packet.now.items ≡ 6 = omega (arith, ap length c.requires.first) in
     head_stopped c.in-Err.stop c.stopped.result c.args.length old new left left' c.args.packet.now.items said.bytes
     c.stopped.ensures c.requires.first c.requires.long (search rules) said.are
     (subst (λ n. Takes n old new left left' said.bytes (Err c.in-Err.stop)) most said.takes)
@@ -25,7 +25,7 @@ returns-then-len-lt8-clause-answer g c =
     let left' = g.S.Source.left c.take_bytes.new.source in
     let came = c.args.packet.now.items in
     let two = ap length c.requires.first in
-    let most : 8 - c.args.packet.now.len ≡ 6 = omega (arith, c.args.packet.now.ok.0, two) in
+    let most : 8 - length c.args.packet.now.items ≡ 6 = omega (arith, two) in
     let count : length came + length said.bytes ≡ c.len.result =
     omega (arith, c.len.ensures, c.take_bytes.new.into.ok.0, ap length said.items, length-append came said.bytes) in
     head_cut c.cut_at.result c.args.length c.passed.result old new left left' came said.bytes c.cut_at.ensures
@@ -41,7 +41,7 @@ returns-clause-answer g c =
     let left' = g.S.Source.left c.take_bytes.new.source in
     let came = c.args.packet.now.items in
     let two = ap length c.requires.first in
-    let most : 8 - c.args.packet.now.len ≡ 6 = omega (arith, c.args.packet.now.ok.0, two) in
+    let most : 8 - length c.args.packet.now.items ≡ 6 = omega (arith, two) in
     let count : length came + length said.bytes ≡ c.len.result =
     omega (arith, c.len.ensures, c.take_bytes.new.into.ok.0, ap length said.items, length-append came said.bytes) in
     let head : head_bytes c.read-head.result ≡ came ++ said.bytes =

@@ -1,30 +1,46 @@
-use Rattle.std.proofs.Common.{◌≡◌, ◌≤◌, ◌++◌, ◌∙◌, length, take, ap, append_assoc, arith, rules}
+use Rattle.std.proofs.Common.{◌≡◌, ◌+◌, ◌-◌, ◌≤◌, ◌++◌, ◌∙◌, length, length-append, length-take, take, ap, append_assoc, arith, rules}
 use Rattle.std.proofs.lemmas.Grind.{common_steps}
 use Rattle.opus_io.proofs.BytesLemmas.{AreBytes-append}
-use Rattle.rec_store.proofs.TakeLemmas.{Begun-turn}
+use Rattle.rec_store.proofs.TakeLemmas.{Begun-turn, kept-turn}
 use Rattle.rec_store.proofs.take.take_bytes.Goals as goal
 
 pub bytes-preserved : goal.bytes-preserved
 bytes-preserved g c =
-    let looked = rw c.in-Ok.is at c.ahead.follows.holds-at-none in
+    let looked = rw c.in_ok-shown.was at c.ahead.follows.holds-at-none in
     let n = c.min-count.result in
-    let some : 1 ≤ n = grind (arith, c.min-count.ensures, c.len.ensures, c.len-in-bytes.ensures, c.is_empty.ensures, c.if-is_empty.false) in
-    let within : n ≤ length c.in-Ok.shown.now = omega (arith, c.min-count.ensures) in
-    let own = take n c.in-Ok.shown.now in
+    let shown = c.in_ok-shown.shown.now in
+    let some : 1 ≤ n = grind (arith, c.min-count.ensures, c.count.ensures, c.count-in-bytes.ensures, c.is_empty.ensures, c.if-is_empty.false) in
+    let within : n ≤ length shown = omega (arith, c.min-count.ensures) in
+    let own = take n shown in
+    let look = c.ahead.follows.lender-at-none in
     let before = c.bytes.invariant.behind in
-    let items : c.put.new.into.items ≡ c.bytes.into.items ++ own = c.put.ensures.items in
+    let into = g.R.Room.items c.args.into.now in
+    let held = g.R.Room.items c.bytes.into in
+    let items : g.R.Room.items c.put.new.self ≡ held ++ own = c.put.ensures.items in
+    let more : length (g.R.Room.items c.put.new.self) ≡ length held + n =
+    omega (arith, ap length items, length-append held own, length-take n shown, within) in
+    let came : length held ≡ length into + length before.bytes =
+    ap length before.items ∙ length-append into before.bytes in
+    let short = c.bytes-test.true in
     record {
       behind = record {
         bytes = before.bytes ++ own;
-        items = items ∙ ap (λ l. l ++ own) before.items ∙ append_assoc c.args.into.now.items before.bytes own;
+        items = items ∙ ap (λ l. l ++ own) before.items ∙ append_assoc into before.bytes own;
         are = AreBytes-append before.bytes own before.are c.put.ensures.are;
-        begun = Begun-turn c.args.input.now c.bytes.input c.ahead.follows.lender-at-none c.pass.new.self
+        begun = Begun-turn c.args.input.now c.bytes.input look c.pass.new.self
             (g.S.Source.left c.args.source.now) (g.S.Source.left c.bytes.source) (g.S.Source.left c.ahead.new.source)
-            before.bytes c.in-Ok.shown.now n before.begun looked.stays looked.shown some within c.pass.ensures.bytes
+            before.bytes shown n before.begun looked.stays looked.shown some within c.pass.ensures.bytes
             c.pass.ensures.passed c.pass.ensures.limit c.pass.ensures.in_limit;
       };
-      few = search rules;
+      few = omega (arith, more, c.min-count.ensures, c.count.ensures, c.count-in-bytes.ensures, short);
       room = search rules;
-      in_limit = c.pass.ensures.in_limit;
-      cause = grind (arith, common_steps, c.in-Ok.ensures.cause.still, c.bytes.invariant.cause);
+      within = λ _. c.pass.ensures.in_limit;
+      untouched = λ enough fits.
+          let kept = c.bytes.invariant.untouched enough fits in
+          let turn = kept-turn (c.args.most - length into) c.args.input.now c.bytes.input look c.pass.new.self
+          (g.S.Source.left c.bytes.source) (g.S.Source.left c.ahead.new.source) before.bytes n enough
+          (omega (arith, short, c.count.ensures, came)) (omega (arith, kept.1, came)) looked.stays
+          (omega (arith, within, ap length looked.shown, length-take (look.limit - look.passed) look.bytes)) c.pass.ensures.bytes in
+          (c.ahead.ensures.untouched turn.0 ∙ kept.0, omega (arith, turn.1, more, came));
+      cause = grind (arith, common_steps, c.in_ok-shown.ensures.cause.still, c.bytes.invariant.cause);
     }

@@ -1,5 +1,4 @@
-use Rattle.std.proofs.Common.{◌≡◌, ℕ, ◌-◌, ◌≤◌, List, ◌++◌}
-use Rattle.std.specs.Prelude.{vec_len, vec_capacity}
+use Rattle.std.proofs.Common.{◌≡◌, ℕ, ◌+◌, ◌-◌, ◌≤◌, List, ◌++◌, length}
 use Rattle.opus_io.specs.Reader.{ReaderState}
 use Rattle.std.specs.declared.option.Option.{Option}
 use Rattle.rec_store.specs.DumpStore.{AreBytes}
@@ -14,14 +13,19 @@ pub record Behind (before now : List ℕ) (old new : ReaderState) (left left' : 
   pub begun : Begun old new left left' bytes
 
 abbrev pub decreases-bytes : goal.decreases-bytes
-decreases-bytes g l = l.most - vec_len l.into
+decreases-bytes g l = l.most - length (g.R.Room.items l.into)
 
 abbrev pub invariant-bytes : goal.invariant-bytes
 invariant-bytes g l = record {
-  behind : Behind l.initial.into.items l.into.items l.initial.input l.input (g.S.Source.left l.initial.source)
-      (g.S.Source.left l.source);
-  few : vec_len l.into ≤ l.most;
-  room : vec_capacity l.initial.into ≤ vec_capacity l.into;
-  in_limit : l.input.passed ≤ l.input.limit;
+  behind : Behind (g.R.Room.items l.initial.into) (g.R.Room.items l.into) l.initial.input l.input
+      (g.S.Source.left l.initial.source) (g.S.Source.left l.source);
+  few : length (g.R.Room.items l.into) ≤ l.most;
+  room : g.R.Room.size l.initial.into ≤ g.R.Room.size l.into;
+  within : l.most ≤ length (g.R.Room.items l.into) → l.input.passed ≤ l.input.limit;
+  untouched : l.most - length (g.R.Room.items l.initial.into) ≤ length l.initial.input.bytes
+      → l.most - length (g.R.Room.items l.initial.into) ≤ l.initial.input.limit - l.initial.input.passed
+      → (l.source ≡ l.initial.source)
+      × (length l.input.bytes + length (g.R.Room.items l.into)
+      ≡ length l.initial.input.bytes + length (g.R.Room.items l.initial.into));
   cause : g.S.Source.faults l.source ≡ g.S.Source.faults l.initial.source;
 }
