@@ -8,8 +8,8 @@ use Rattle.rec_store.proofs.StoreLemmas.{opening_part-cut, record_part-cut}
 use Rattle.rec_store.proofs.FaultLemmas.{bad_line-not_cut, short-not_cut}
 use Rattle.dump_records.specs.declared.item.Item.{Item}
 use Rattle.dump_records.specs.declared.form.DumpForm.{DumpForm}
-use Rattle.dump_records.specs.declared.form.Mode.{Mode}
-use Rattle.dump_records.specs.declared.form.Mode.TheVariants.{Line, Head, Fresh, Kept, First, Part, Bad}
+use Rattle.dump_records.specs.declared.mode.Mode.{Mode}
+use Rattle.dump_records.specs.declared.mode.Mode.TheVariants.{Line, Head, Fresh, Kept, First, Part, Bad}
 use Rattle.dump_records.specs.Modes.{is_within}
 use Rattle.dump_records.specs.DumpForm.{StandsIn, DumpStands}
 use Rattle.dump_records.specs.Settled.{head_part, first_part, wanted_part}

@@ -6,8 +6,8 @@ use Rattle.rec_store.specs.DumpStore.{AreBytes}
 use Rattle.rec_store.proofs.LineLemmas.{bad_line-longer}
 use Rattle.dump_records.specs.declared.item.Item.{Item}
 use Rattle.dump_records.specs.declared.form.DumpForm.{DumpForm}
-use Rattle.dump_records.specs.declared.form.Mode.{Mode}
-use Rattle.dump_records.specs.declared.form.Mode.TheVariants.{Line, Head, Fresh, Kept, First, Part, Bad}
+use Rattle.dump_records.specs.declared.mode.Mode.{Mode}
+use Rattle.dump_records.specs.declared.mode.Mode.TheVariants.{Line, Head, Fresh, Kept, First, Part, Bad}
 use Rattle.dump_records.specs.Capture.{ShowsBadLine}
 use Rattle.dump_records.specs.DumpForm.{StandsIn, DumpStands, InHead, InRecords, InRecord, InShort}
 use Rattle.dump_records.proofs.StandLemmas.{head_more, head_whole, short_longer}

@@ -1,5 +1,5 @@
 -- What the machine of the form of captures stands for.
-use Rattle.std.specs.Prelude.{◌≡◌, ◌⊎◌, ℕ, ◌+◌, ◌≤◌, List, [], ◌∷◌, ◌++◌, length, take, drop}
+use Rattle.std.specs.Prelude.{◌≡◌, ◌⊎◌, ℕ, ◌+◌, ◌≤◌, List, [], ◌∷◌, ◌++◌, length, take, drop, true}
 use Rattle.std.specs.List.{flat_map}
 use Rattle.job_loop.specs.Shown.{Shown}
 use Rattle.job_loop.specs.Forms.{HasFed}
@@ -11,8 +11,8 @@ use Rattle.rec_store.specs.declared.dump_opening.DumpHead.{DumpHead}
 use Rattle.rec_store.specs.declared.stop.StoreFault.TheVariants.{DumpLength}
 use Rattle.dump_records.specs.declared.item.Item.{Item}
 use Rattle.dump_records.specs.declared.form.DumpForm.{DumpForm}
-use Rattle.dump_records.specs.declared.form.Mode.{Mode}
-use Rattle.dump_records.specs.declared.form.Mode.TheVariants.{Line, Head, Fresh, Kept, First, Part, Bad}
+use Rattle.dump_records.specs.declared.mode.Mode.{Mode}
+use Rattle.dump_records.specs.declared.mode.Mode.TheVariants.{Line, Head, Fresh, Kept, First, Part, Bad}
 use Rattle.dump_records.specs.Capture.{shown_records, bad_record, ShowsBadLine}
 use Rattle.dump_records.specs.Fits.{ItemFits}
 
@@ -100,3 +100,10 @@ abbrev pub Feeds : DumpForm → DumpForm → ℕ → Fed → List ℕ → Type 0
 Feeds old new at fed own =
     (h : List ℕ) (rs : List (Shown Item)) → DumpStands old h rs → length h ≡ at
     → HasFed (DumpStands new) (λ r. r.item.place) (shown_by new own) fed.whole h rs own (at + fed.count)
+
+-- What a call took of a piece behind `at` bytes: one byte at least, and where it says so a record stands that can be lent.
+pub record Took (old new : DumpForm) (at : ℕ) (piece : List ℕ) (f : Fed) : Type 0 where
+  pub some : 1 ≤ f.count
+  pub most : f.count ≤ length piece
+  pub fed : Feeds old new at f (take f.count piece)
+  pub ready : f.whole ≡ true → IsReady new (take f.count piece)

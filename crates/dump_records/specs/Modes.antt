@@ -1,7 +1,7 @@
 -- Where the machine of the form of captures stands.
 use Rattle.std.specs.Prelude.{Bool, true, false}
-use Rattle.dump_records.specs.declared.form.Mode.{Mode}
-use Rattle.dump_records.specs.declared.form.Mode.TheVariants.{Line, Head, Fresh, Kept, First, Part, Bad}
+use Rattle.dump_records.specs.declared.mode.Mode.{Mode}
+use Rattle.dump_records.specs.declared.mode.Mode.TheVariants.{Line, Head, Fresh, Kept, First, Part, Bad}
 
 -- within an opening or a record, which an end of the input cuts
 abbrev pub is_within : Mode → Bool

@@ -8,8 +8,8 @@ use Rattle.rec_store.specs.declared.stop.StoreFault.TheVariants.{DumpLength}
 use Rattle.rec_store.proofs.PartLemmas.{opening_part-line, opening_part-head, record_part-of, record_part-one, record_part-nil}
 use Rattle.dump_records.specs.declared.item.Item.{Item}
 use Rattle.dump_records.specs.declared.form.DumpForm.{DumpForm}
-use Rattle.dump_records.specs.declared.form.Mode.{Mode}
-use Rattle.dump_records.specs.declared.form.Mode.TheVariants.{Line, Head, Fresh, Kept, First, Part, Bad}
+use Rattle.dump_records.specs.declared.mode.Mode.{Mode}
+use Rattle.dump_records.specs.declared.mode.Mode.TheVariants.{Line, Head, Fresh, Kept, First, Part, Bad}
 use Rattle.dump_records.specs.Capture.{shown_records, bad_record, ShowsRecords, DumpSettles}
 use Rattle.dump_records.specs.Wants.{Wants}
 use Rattle.dump_records.specs.DumpForm.{InHead, InRecords, InShort, StandsIn, DumpStands}

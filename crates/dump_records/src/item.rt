@@ -1,8 +1,9 @@
 //! What is found out about a record of a capture.
+ghost use Rattle.std.specs.Prelude.{◌≡◌};
 ghost use Rattle.dump_records.specs.Fits.{ItemFits};
 
 use job_loop::Numbers;
-use rec_store::{DumpItem, StoreFault};
+use rec_store::{DumpItem, DumpTold, StoreFault};
 
 /// What stands in a capture.
 #[derive(Clone, Copy, Debug, PartialEq, Eq)]
@@ -24,4 +25,27 @@ pub struct Item {
 
 impl Numbers for Item {
     ghost fits = { ItemFits };
+}
+
+/// A record that ends at this place.
+#[inline(always)]
+pub(crate) fn record_at(place: u64, told: DumpTold) -> Item
+    ensures { result ≡ record { place = place; found = Found.Record told.item } }
+{
+    Item {
+        place,
+        found: Found::Record(told.item),
+    }
+}
+
+/// Where a capture goes wrong, decided behind so many bytes.
+#[cold]
+#[inline(never)]
+pub(crate) fn bad(place: u64, fault: StoreFault) -> Item
+    ensures { result ≡ record { place = place; found = Found.Bad fault } }
+{
+    Item {
+        place,
+        found: Found::Bad(fault),
+    }
 }

@@ -7,6 +7,7 @@
 mod form;
 mod item;
 pub mod laws;
+mod mode;
 #[cfg(test)]
 mod tests;
 

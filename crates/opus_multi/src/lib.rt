@@ -21,5 +21,5 @@ pub use fault::{JoinFault, MultiFault};
 pub use joined::join;
 pub use list::{write_multi, write_multi_kept};
 pub use multi::{Multi, decode_multi};
-pub use multi_feed::MultiFeed;
+pub use multi_feed::{MultiFeed, framing_at};
 pub use part::Part;

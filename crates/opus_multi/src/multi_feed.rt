@@ -238,8 +238,8 @@ impl MultiFeed {
     }
 }
 
-// Which packets stream `k` of so many is read from: all but the last are self-delimited.
-fn framing_at(streams: u8, k: usize) -> Framing
+/// Which packets stream `k` of so many is read from: all but the last are self-delimited (RFC 7845, section 3).
+pub fn framing_at(streams: u8, k: usize) -> Framing
     requires { k ≤ streams }
     ensures { result ≡ framing_of streams k }
 {

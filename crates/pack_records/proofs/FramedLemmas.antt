@@ -7,8 +7,8 @@ use Rattle.opus_packet.specs.PacketPrefix.{AreBytes}
 use Rattle.opus_packet.proofs.BytesLemmas.{AreBytes-append, AreBytes-right}
 use Rattle.opus_feed.specs.declared.framing.Framing.TheVariants.{SelfDelimited}
 use Rattle.opus_feed.specs.Packets.{fault_of}
-use Rattle.pack_records.specs.declared.framed.Mode.{Mode}
-use Rattle.pack_records.specs.declared.framed.Mode.TheVariants.{Fresh, Within, Over}
+use Rattle.pack_records.specs.declared.self_form.Mode.{Mode}
+use Rattle.pack_records.specs.declared.self_form.Mode.TheVariants.{Fresh, Within, Over}
 use Rattle.pack_records.specs.declared.item.Item.{Item}
 use Rattle.pack_records.specs.declared.pieces.Pieces.{Pieces}
 use Rattle.pack_records.specs.Early.{IsEarly}

@@ -3,7 +3,7 @@ pub mod FormLemmas
 pub mod LentLemmas
 pub mod TakenLemmas
 pub mod StandardFacts
-pub mod RawLemmas
+pub mod OnePayloadLemmas
 pub mod ShowsLemmas
 pub mod FramedLemmas
 pub mod StoreFronts

@@ -29,7 +29,7 @@ use Rattle.opus_feed.specs.Answers.{Answers, Ends, Finishes}
 use Rattle.pack_records.specs.declared.item.Found.TheVariants.{Packet as FoundPacket, Bad as FoundBad}
 use Rattle.pack_records.specs.declared.item.Item.{Item}
 use Rattle.pack_records.specs.declared.pieces.Pieces.{Pieces}
-use Rattle.pack_records.specs.declared.taken.Taken.TheVariants.{Packet, Bad}
+use Rattle.pack_records.specs.declared.piece_taken.PieceTaken.TheVariants.{Packet, Bad}
 use Rattle.pack_records.specs.Fits.{form_of}
 use Rattle.pack_records.specs.Early.{IsEarly, IsDecided}
 use Rattle.pack_records.specs.EarlyLaws.{early_more, early_none, early_front}

@@ -14,7 +14,7 @@ use Rattle.opus_feed.specs.declared.framing.Framing.TheVariants.{SelfDelimited}
 use Rattle.opus_feed.specs.declared.padding.Padding.{Padding}
 use Rattle.opus_feed.specs.Packets.{IsNone, fault_of}
 use Rattle.pack_records.specs.declared.cut.Cut.{Cut}
-use Rattle.pack_records.specs.declared.framed.Mode.{Mode}
+use Rattle.pack_records.specs.declared.self_form.Mode.{Mode}
 use Rattle.pack_records.specs.declared.item.Item.{Item}
 use Rattle.pack_records.specs.declared.pieces.Pieces.{Pieces}
 use Rattle.pack_records.specs.Early.{IsEarly}

@@ -8,8 +8,6 @@ pub mod EarlyLaws
 pub mod Pieces
 pub mod Settled
 pub mod SettledLaws
-pub mod Raw
-pub mod RawLaws
 pub mod Framed
 pub mod FramedLaws
 pub mod Payloads
@@ -19,6 +17,10 @@ pub mod StoreLaws
 pub mod StoreStands
 pub mod Undelimited
 pub mod UndelimitedLaws
+pub mod OnePayload
+pub mod OnePayloadLaws
+pub mod Raw
+pub mod RawLaws
 pub mod Demo
 pub mod DemoForm
 pub mod DemoRests

@@ -13,8 +13,8 @@ use Rattle.opus_feed.specs.Feeds.{Stands, Ended}
 use Rattle.opus_feed.specs.Answers.{Answers, IsRead}
 use Rattle.pack_records.specs.declared.item.Item.{Item}
 use Rattle.pack_records.specs.declared.pieces.Pieces.{Pieces}
-use Rattle.pack_records.specs.declared.taken.Taken.{Taken}
-use Rattle.pack_records.specs.declared.taken.Taken.TheVariants.{More, Packet, Bad}
+use Rattle.pack_records.specs.declared.piece_taken.PieceTaken.{PieceTaken}
+use Rattle.pack_records.specs.declared.piece_taken.PieceTaken.TheVariants.{More, Packet, Bad}
 use Rattle.pack_records.specs.Early.{IsDecided}
 use Rattle.pack_records.specs.declared.item.Found.TheVariants.{Packet as FoundPacket}
 use Rattle.pack_records.specs.declared.item.Found.{Found}
@@ -49,7 +49,7 @@ pub record PieceStands (p : Pieces) (h : List ℕ) : Type 0 where
   pub open_is : Answers p.framing h MoreStep
 
 -- a piece came behind h, whose first byte stands at `start`
-abbrev pub HasTaken : Pieces → ℕ → ℕ → List ℕ → List ℕ → Taken → Type 0
+abbrev pub HasTaken : Pieces → ℕ → ℕ → List ℕ → List ℕ → PieceTaken → Type 0
 HasTaken p start range h piece More = PieceStands p (h ++ piece)
 HasTaken p start range h piece (Packet count) =
     (p.framing ≡ SelfDelimited)
@@ -59,7 +59,7 @@ HasTaken p start range h piece (Bad count) =
     × ((own : List ℕ) → HoldsBad p.framing start range (h ++ take count piece) (shown_by p own))
 
 -- some bytes of a piece, one at least
-abbrev pub IsCount : Taken → ℕ → Type 0
+abbrev pub IsCount : PieceTaken → ℕ → Type 0
 IsCount More size = Unit {0}
 IsCount (Packet count) size = (1 ≤ count) × (count ≤ size)
 IsCount (Bad count) size = (1 ≤ count) × (count ≤ size)
@@ -74,7 +74,7 @@ pub record IsKeptOf (r : Shown Item) (padding : Padding) (framing : Framing) (st
       (form_of framing packet.value (kept_bytes packet.tail))
 
 -- a record stands
-abbrev pub IsStanding : Taken → Type 0 → Type 0
+abbrev pub IsStanding : PieceTaken → Type 0 → Type 0
 IsStanding More Ready = Unit {0}
 IsStanding (Packet count) Ready = Ready
 IsStanding (Bad count) Ready = Ready

@@ -1,63 +1,38 @@
--- The laws of an input that is one undelimited packet.
-use Rattle.std.proofs.Common.{◌≡◌, ℕ, Bool, List, [], ◌∷◌, ◌++◌, length, inr, ⊎_elim, refl, sym, ap, ◌∙◌, append-nil}
+-- What bytes settle that are one undelimited packet, or none, by its two cases.
+use Rattle.std.proofs.Common.{◌≡◌, ◌⊎◌, inl, inr, ℕ, ◌≤◌, List, length, ⊎_elim, sym, ◌∙◌, arith}
 use Rattle.std.proofs.lemmas.Bool.{cases_lt}
-use Rattle.std.specs.declared.option.Option.{Option}
 use Rattle.job_loop.specs.Shown.{Shown}
-use Rattle.job_loop.specs.Forms.{Begins}
-use Rattle.opus_packet.specs.PacketPrefix.{AreBytes}
 use Rattle.opus_feed.specs.declared.framing.Framing.TheVariants.{Whole}
-use Rattle.opus_feed.specs.declared.padding.Padding.{Padding}
 use Rattle.opus_feed.specs.Packets.{fault_of}
-use Rattle.pack_records.specs.declared.cut.Cut.{Cut}
 use Rattle.pack_records.specs.declared.item.Item.{Item}
-use Rattle.pack_records.specs.declared.pieces.Pieces.{Pieces}
 use Rattle.pack_records.specs.Early.{IsEarly}
-use Rattle.pack_records.specs.EarlyLaws.{early_none}
-use Rattle.pack_records.specs.Holds.{Holds}
-use Rattle.pack_records.specs.HoldsLaws.{holds_same}
-use Rattle.pack_records.specs.Raw.{RawSettles, RawEnds, RawStands}
+use Rattle.pack_records.specs.OnePayload.{OneRecord, NoneYet, SaysSettles}
+use Rattle.pack_records.specs.Raw.{RawSettles}
 use Rattle.pack_records.specs.Settled.{early_records}
-use Rattle.pack_records.specs.SettledLaws.{fault_record, early_one, early_nil, early_longer, early_same}
+use Rattle.pack_records.specs.SettledLaws.{early_one, early_nil}
+use Rattle.pack_records.specs.Undelimited.{packet_decides}
 
-pub raw_settled : (over : Bool) (pieces : Pieces) (h : List ℕ) (rs : List (Shown Item)) → RawStands over pieces h rs
-    → RawSettles h rs
-raw_settled over pieces h rs stands = stands.settles
-
--- what is settled early stands first, whatever comes behind
-raw_begins : (h : List ℕ) (rs ss : List (Shown Item)) → rs ≡ early_records Whole 0 h
-    → (IsEarly Whole h → ss ≡ fault_record Whole 0 h ∷ []) → Begins rs ss
-raw_begins h rs ss is early =
-    ⊎_elim
-    (λ less. ([], early less ∙ sym (early_one Whole 0 h less) ∙ sym is ∙ sym (append-nil rs)))
-    (λ late. (ss, ap (λ l. l ++ ss) (sym (is ∙ early_nil Whole 0 h late))))
+told_by : (h : List ℕ) (rs : List (Shown Item)) → OneRecord packet_decides h rs ⊎ NoneYet packet_decides h rs
+    → rs ≡ early_records Whole 0 h
+told_by h rs (inl e) = e.records_are ∙ sym (early_one Whole 0 h e.early)
+told_by h rs (inr n) =
+    ⊎_elim (λ less. absurd (n.undecided less)) (λ late. n.records_are ∙ sym (early_nil Whole 0 h late))
     (cases_lt (fault_of Whole h).place (length h))
 
-pub raw_grows : (h more : List ℕ) (rs ss : List (Shown Item)) → RawSettles h rs → RawSettles (h ++ more) ss
-    → Begins rs ss
-raw_grows h more rs ss a b =
-    raw_begins h rs ss a.records_are
-    (λ early. b.records_are ∙ early_one Whole 0 (h ++ more) (early_longer Whole h more a.are_bytes early)
-    ∙ ap (λ r. r ∷ []) (early_same Whole 0 h more a.are_bytes early))
+by_place : (h : List ℕ) (rs : List (Shown Item)) → rs ≡ early_records Whole 0 h
+    → IsEarly Whole h ⊎ (length h ≤ (fault_of Whole h).place)
+    → OneRecord packet_decides h rs ⊎ NoneYet packet_decides h rs
+by_place h rs is (inl less) = inl record { early = less; records_are = is ∙ early_one Whole 0 h less }
+by_place h rs is (inr late) = inr record {
+  undecided = λ early. omega (arith, late, early);
+  records_are = is ∙ early_nil Whole 0 h late;
+}
 
--- bytes with an early fault hold nothing else
-early_holds : (padding : Padding) (h : List ℕ) (r : Shown Item) → AreBytes h → IsEarly Whole h
-    → Holds padding Whole 0 0 h r → r ≡ fault_record Whole 0 h
-early_holds padding h r are early holds =
-    holds_same padding Whole 0 0 h r (fault_record Whole 0 h) holds
-    (inr (record { none = early_none Whole h are early; shows = refl }))
-
-pub raw_ends_grow : (padding : Padding) (h more : List ℕ) (rs ss : List (Shown Item)) (cut : Option Cut)
-    → RawSettles h rs → RawEnds padding (h ++ more) ss cut → Begins rs ss
-raw_ends_grow padding h more rs ss cut a b =
-    raw_begins h rs ss a.records_are
-    (λ early. b.records_are
-    ∙ ap (λ r. r ∷ []) (early_holds padding (h ++ more) b.shown b.are_bytes
-    (early_longer Whole h more a.are_bytes early) b.holds ∙ early_same Whole 0 h more a.are_bytes early))
-
-pub raw_ends_once : (padding : Padding) (h : List ℕ) (rs ss : List (Shown Item)) (a b : Option Cut)
-    → RawEnds padding h rs a → RawEnds padding h ss b → (rs ≡ ss) × (a ≡ b)
-raw_ends_once padding h rs ss a b p q = (
-  p.records_are ∙ ap (λ r. r ∷ []) (holds_same padding Whole 0 0 h p.shown q.shown p.holds q.holds)
-      ∙ sym q.records_are,
-  p.cut_is ∙ sym q.cut_is,
-)
+pub raw_says : SaysSettles packet_decides RawSettles
+raw_says = record {
+  to_own = λ h rs s. record { are_bytes = s.are_bytes; records_are = told_by h rs s.shows };
+  from_own = λ h rs s. record {
+    are_bytes = s.are_bytes;
+    shows = by_place h rs s.records_are (cases_lt (fault_of Whole h).place (length h));
+  };
+}

@@ -1,5 +1,5 @@
 -- What the machine of a store stands for.
-use Rattle.std.specs.Prelude.{◌≡◌, ◌⊎◌, ℕ, ◌+◌, ◌^◌, ◌<◌, ◌≤◌, List, [], ◌++◌, length}
+use Rattle.std.specs.Prelude.{◌≡◌, ◌⊎◌, ℕ, ◌+◌, ◌^◌, ◌<◌, ◌≤◌, List, [], ◌++◌, length, take, true}
 use Rattle.job_loop.specs.Forms.{HasFed}
 use Rattle.job_loop.specs.declared.form.Fed.{Fed}
 use Rattle.rec_store.specs.DemoStore.{demo_head}
@@ -71,3 +71,12 @@ abbrev pub Feeds : {P L R : Type 0} → Reading P L R → Store P → Store P �
 Feeds {P} {L} {R} m old new at fed own =
     (h : List ℕ) (rs : List R) → StoreStands m old h rs → length h ≡ at
     → HasFed (StoreStands m new) m.place (m.current new.payload own) fed.whole h rs own (at + fed.count)
+
+-- What a call took of a piece behind `at` bytes: one byte at least, and where it says so a record stands that can be lent.
+-- What the reader of payloads never changes stays.
+pub record Took {P L R : Type 0} (m : Reading P L R) (old new : Store P) (at : ℕ) (piece : List ℕ) (f : Fed) : Type 0 where
+  pub some : 1 ≤ f.count
+  pub most : f.count ≤ length piece
+  pub same : m.layout new.payload ≡ m.layout old.payload
+  pub fed : Feeds m old new at f (take f.count piece)
+  pub ready : f.whole ≡ true → m.ready new.payload (take f.count piece)

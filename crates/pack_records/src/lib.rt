@@ -10,27 +10,27 @@ mod demo;
 #[cfg(test)]
 mod demo_tests;
 mod first;
-mod form;
-mod framed;
 mod item;
+mod kept_form;
 pub mod laws;
 mod lent;
 mod payload;
+mod piece_taken;
 mod pieces;
 mod raw;
+mod self_form;
 mod store;
-mod taken;
 #[cfg(test)]
 mod tests;
 mod undelimited;
 
 pub use cut::Cut;
 pub use demo::DemoForm;
-pub use form::{MOST_KEPT, append_form};
-pub use framed::SelfForm;
 pub use item::{Found, Item};
+pub use kept_form::{MOST_KEPT, append_form};
 pub use lent::lent_packet;
 pub use payload::PayloadReader;
-pub use raw::RawForm;
+pub use raw::{Raw, RawForm};
+pub use self_form::SelfForm;
 pub use store::Store;
 pub use undelimited::Undelimited;

@@ -3,6 +3,7 @@ ghost use Rattle.std.specs.Prelude.{◌≡◌, ◌+◌, ◌-◌, ◌<◌, ◌≤
 ghost use Rattle.opus_io.specs.Reader.{max_input};
 ghost use Rattle.job_loop.specs.Shown.{Shown};
 ghost use Rattle.pack_records.specs.Payloads.{Reading, IsReading, Takes, IsHere};
+ghost use Rattle.pack_records.specs.OnePayload.{SaysSettles};
 
 use job_loop::{Lent, Numbers};
 
@@ -16,6 +17,9 @@ pub trait PayloadReader {
 
     // What it stands for, and what its records show.
     ghost reads: { Reading Self Layout (Shown Self.Record) };
+
+    // What bytes settle that are an input of their own, which is one payload.
+    ghost settles: { Layout → List ℕ → List (Shown Self.Record) → Type 0 };
 
     /// Reads all of `own` behind its first `before` bytes as a payload where it lies, if it can be lent from there;
     /// false where it can't. Its first byte stands at `start`.
@@ -64,4 +68,6 @@ pub trait PayloadReader {
 
     // What it says of itself holds.
     ghost lawful: { IsReading reads };
+
+    ghost says: { (l : Layout) → SaysSettles (reads.shows l).decides (settles l) };
 }

@@ -2,9 +2,9 @@
 ghost use Rattle.std.specs.Prelude.{◌≡◌, ◌≤◌, vec_capacity};
 ghost use Rattle.opus_io.specs.Reader.{max_input};
 
-use crate::form::{MOST_KEPT, is_form, write_form};
 use crate::item::{Found, Item};
-use crate::taken::Taken;
+use crate::kept_form::{MOST_KEPT, is_form, write_form};
+use crate::piece_taken::PieceTaken;
 use job_loop::Lent;
 use opus_feed::{Feed, Framing, Padding, Step};
 use opus_io::NoMemory;
@@ -43,6 +43,7 @@ impl Pieces {
         ensures stands { IfOk result (λ p. PieceStands p []) }
         ensures framing { IfOk result (λ p. p.framing ≡ framing) }
         ensures padding { IfOk result (λ p. p.padding ≡ padding) }
+        ensures memory { IfOk result (λ p. vec_capacity p.kept ≡ 192628) }
     {
         Ok(Pieces {
             padding,
@@ -70,7 +71,7 @@ impl Pieces {
     }
 
     /// Takes the next bytes of a packet whose first byte stands at `start`. The first of these stands at `at`.
-    pub(crate) fn take(&mut self, start: u64, range: u32, at: u64, piece: &[u8]) -> Taken
+    pub(crate) fn take(&mut self, start: u64, range: u32, at: u64, piece: &[u8]) -> PieceTaken
         requires some { 0 < length piece.now }
         requires fits { at + length piece.now ≤ max_input }
         ensures taken { (h : List ℕ) → PieceStands self.old h → start + length h ≡ at
@@ -80,17 +81,17 @@ impl Pieces {
         ensures same { Same self.old self.new }
     {
         match self.feed.feed(piece) {
-            Step::More => Taken::More,
+            Step::More => PieceTaken::More,
             Step::Done(used) => {
                 let count = used.max(1);
                 self.keep(start, range, at + count as u64);
-                Taken::Packet(count)
+                PieceTaken::Packet(count)
             }
             Step::Refused(fault) => {
                 let place = start.saturating_add(fault.place).saturating_add(1);
                 self.refuse(start, range, place, fault);
                 let count = place.saturating_sub(at) as usize;
-                Taken::Bad(count.max(1).min(piece.len()))
+                PieceTaken::Bad(count.max(1).min(piece.len()))
             }
         }
     }

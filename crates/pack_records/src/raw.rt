@@ -1,68 +1,59 @@
-//! An input that is one undelimited packet (RFC 6716, 3.2).
-ghost use Rattle.std.specs.Prelude.{◌≡◌, ◌+◌, ◌^◌, ◌<◌, ◌≤◌, ℕ, List, [], ◌++◌, true, false, length, take, IfOk};
-ghost use Rattle.job_loop.specs.Shown.{Shown};
-ghost use Rattle.opus_feed.specs.declared.framing.Framing.TheVariants.{Whole as WholeFraming};
-ghost use Rattle.opus_feed.specs.declared.padding.Padding.{Padding as PaddingChoice};
-ghost use Rattle.pack_records.specs.Pieces.{shown_by, IsReady};
-ghost use Rattle.pack_records.specs.Raw.{RawSettles, RawEnds, RawStands};
-ghost use Rattle.pack_records.specs.RawLaws.{raw_settled, raw_grows, raw_ends_grow, raw_ends_once};
+//! An input that is one payload, whatever reads it; and one that is an undelimited packet (RFC 6716, 3.2).
+ghost use Rattle.std.specs.Prelude.{◌≡◌, [], false, IfOk};
 
 use crate::cut::Cut;
-use crate::item::Item;
-use crate::pieces::Pieces;
-use crate::taken::Taken;
+use crate::payload::PayloadReader;
+use crate::undelimited::Undelimited;
 use job_loop::{Close, Fed, Form, Lent};
-use opus_feed::{Framing, Padding};
+use opus_feed::Padding;
 use opus_io::NoMemory;
 use std::alloc::Global;
 
-/// The whole input as one record, with one undelimited packet or its fault. A fault is decided by the very byte
-/// behind which no packet can follow; the bytes behind that one are passed over.
+/// The whole input as one record, with one payload. Where its bytes decide the record early, that is told by the very byte;
+/// the bytes behind that one are passed over.
 #[derive(Drop)]
-pub struct RawForm {
-    pieces: Pieces,
+pub struct Raw<P> {
+    payload: P,
     // The record was decided by a byte, so the end decides none.
     over: bool,
-    ghost framing_is: { pieces.framing ≡ WholeFraming },
 }
 
-impl RawForm {
-    /// No byte came. All memory is taken here.
-    ///
-    /// # Errors
-    ///
-    /// No memory.
-    pub fn new(alloc: Global, padding: Padding) -> Result<RawForm, NoMemory>
-        ensures stands { IfOk result (λ f. RawStands f.over f.pieces [] []) }
-        ensures padding { IfOk result (λ f. f.pieces.padding ≡ padding) }
+impl<P: PayloadReader> Raw<P> {
+    /// A form that was fed nothing, over a reader to which no byte came.
+    pub fn over(payload: P) -> Raw<P>
+        ensures payload { result.payload ≡ payload }
+        ensures over { result.over ≡ false }
     {
-        Ok(RawForm {
-            pieces: Pieces::new(alloc, Framing::Whole, padding)?,
+        Raw {
+            payload,
             over: false,
-        })
+        }
     }
 }
 
-impl Form for RawForm {
-    type Record = Item;
+impl<P: PayloadReader> Form for Raw<P> {
+    ghost use Rattle.pack_records.specs.OnePayload.{Ends, RawStands};
+    ghost use Rattle.pack_records.specs.OnePayloadLaws.{one_settled, one_grows, one_ends_grow, one_ends_once};
+
+    type Record = P::Record;
 
     type Cut = Cut;
 
-    ghost Layout = { PaddingChoice };
+    ghost Layout = { P.Layout };
 
-    ghost layout = { λ f. f.pieces.padding };
+    ghost layout = { λ s. P.reads.layout s.payload };
 
-    ghost settles = { λ _. RawSettles };
+    ghost settles = { P.settles };
 
-    ghost ends = { RawEnds };
+    ghost ends = { λ l. Ends (P.reads.shows l) };
 
-    ghost place = { λ r. r.item.place };
+    ghost place = { P.reads.place };
 
-    ghost stands = { λ f. RawStands f.over f.pieces };
+    ghost stands = { λ s. RawStands P.reads s.over s.payload };
 
-    ghost current = { λ f own. shown_by f.pieces own };
+    ghost current = { λ s. P.reads.current s.payload };
 
-    ghost ready = { λ f own. IsReady f.pieces own };
+    ghost ready = { λ s. P.reads.ready s.payload };
 
     ghost lacks = { λ _. ⊥ };
 
@@ -73,13 +64,12 @@ impl Form for RawForm {
                 whole: false,
             });
         }
-        match self.pieces.take(0, 0, at, piece) {
-            Taken::More => Ok(Fed {
+        match self.payload.take(0, 0, at, piece) {
+            None => Ok(Fed {
                 count: piece.len(),
                 whole: false,
             }),
-            Taken::Packet(count) => Ok(Fed { count, whole: true }),
-            Taken::Bad(count) => {
+            Some(count) => {
                 self.over = true;
                 Ok(Fed { count, whole: true })
             }
@@ -87,23 +77,45 @@ impl Form for RawForm {
     }
 
     #[inline(always)]
-    fn record<'a>(&'a self, own: &'a [u8]) -> Lent<'a, Item> {
-        self.pieces.record(own)
+    fn record<'a>(&'a self, own: &'a [u8]) -> Lent<'a, P::Record> {
+        self.payload.record(own)
     }
 
     fn end(&mut self, at: u64) -> Close<Cut> {
         let whole = !self.over;
         if whole {
-            self.pieces.end(0, 0, at);
+            self.payload.end(0, 0, at);
         }
         Close { whole, cut: None }
     }
 
-    ghost settled = { λ f h rs stands. raw_settled f.over f.pieces h rs stands };
+    ghost settled = { λ s h rs stands. (P.says (P.reads.layout s.payload)).to_own h rs
+        (one_settled P.reads P.lawful s.over s.payload h rs stands) };
 
-    ghost grows = { λ _. raw_grows };
+    ghost grows = { λ l. one_grows (P.reads.shows l) P.reads.place (P.lawful.showing l) (P.settles l) (P.says l) };
 
-    ghost ends_grow = { raw_ends_grow };
+    ghost ends_grow = { λ l. one_ends_grow (P.reads.shows l) P.reads.place (P.lawful.showing l) (P.settles l) (P.says l) };
 
-    ghost ends_once = { raw_ends_once };
+    ghost ends_once = { λ l. one_ends_once (P.reads.shows l) P.reads.place (P.lawful.showing l) };
+}
+
+/// The whole input as one record, with one undelimited packet or its fault. A fault is decided by the very byte
+/// behind which no packet can follow; the bytes behind that one are passed over.
+pub type RawForm = Raw<Undelimited>;
+
+impl Raw<Undelimited> {
+    ghost use Rattle.pack_records.specs.OnePayload.{RawStands};
+    ghost use Rattle.pack_records.specs.Undelimited.{packet_reading};
+
+    /// No byte came. All memory is taken here.
+    ///
+    /// # Errors
+    ///
+    /// No memory.
+    pub fn new(alloc: Global, padding: Padding) -> Result<RawForm, NoMemory>
+        ensures stands { IfOk result (λ f. RawStands packet_reading f.over f.payload [] []) }
+        ensures padding { IfOk result (λ f. f.payload.pieces.padding ≡ padding) }
+    {
+        Ok(Raw::over(Undelimited::new(alloc, padding)?))
+    }
 }

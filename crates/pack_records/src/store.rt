@@ -41,7 +41,7 @@ pub struct Store<P> {
 
 impl<P: PayloadReader> Store<P> {
     ghost use Rattle.pack_records.specs.declared.store.Mode.TheVariants as modes;
-    ghost use Rattle.pack_records.specs.StoreStands.{StoreStands, Feeds, IsLost, IsOpen, IsOver, IsLeft, IsPassed};
+    ghost use Rattle.pack_records.specs.StoreStands.{StoreStands, Feeds, Took, IsLost, IsOpen, IsOver, IsLeft, IsPassed};
     ghost use Rattle.pack_records.specs.Payloads.{IsHere};
 
     /// A form that was fed nothing.
@@ -66,11 +66,7 @@ impl<P: PayloadReader> Store<P> {
         requires none { self.old.head.items ≡ [] }
         requires head { 8 ≤ length piece.now }
         requires fits { at + length piece.now ≤ max_input }
-        ensures some { 1 ≤ result.count }
-        ensures most { result.count ≤ length piece.now }
-        ensures same { P.reads.layout self.new.payload ≡ P.reads.layout self.old.payload }
-        ensures fed { Feeds P.reads self.old self.new at result (take result.count piece.now) }
-        ensures ready { result.whole ≡ true → P.reads.ready self.new.payload (take result.count piece.now) }
+        ensures took { Took P.reads self.old self.new at piece.now result }
     {
         let head = head_of(&piece[..8]);
         let start = at + 8;
@@ -108,11 +104,7 @@ impl<P: PayloadReader> Store<P> {
         requires mode { self.old.mode ≡ modes.Head }
         requires some { 0 < length piece.now }
         requires fits { at + length piece.now ≤ max_input }
-        ensures some { 1 ≤ result.count }
-        ensures most { result.count ≤ length piece.now }
-        ensures same { P.reads.layout self.new.payload ≡ P.reads.layout self.old.payload }
-        ensures fed { Feeds P.reads self.old self.new at result (take result.count piece.now) }
-        ensures ready { result.whole ≡ true → P.reads.ready self.new.payload (take result.count piece.now) }
+        ensures took { Took P.reads self.old self.new at piece.now result }
     {
         let count = piece.len().min(8 - self.head.len());
         self.head.try_extend_from_slice(&piece[..count]).unwrap();
@@ -155,11 +147,7 @@ impl<P: PayloadReader> Store<P> {
         requires mode { self.old.mode ≡ modes.Payload }
         requires some { 0 < length piece.now }
         requires fits { at + length piece.now ≤ max_input }
-        ensures some { 1 ≤ result.count }
-        ensures most { result.count ≤ length piece.now }
-        ensures same { P.reads.layout self.new.payload ≡ P.reads.layout self.old.payload }
-        ensures fed { Feeds P.reads self.old self.new at result (take result.count piece.now) }
-        ensures ready { result.whole ≡ true → P.reads.ready self.new.payload (take result.count piece.now) }
+        ensures took { Took P.reads self.old self.new at piece.now result }
     {
         let most = piece.len().min(self.left as usize);
         match self

@@ -4,8 +4,8 @@ ghost use Rattle.opus_feed.specs.declared.framing.Framing.TheVariants.{Whole as 
 
 use crate::item::Item;
 use crate::payload::PayloadReader;
+use crate::piece_taken::PieceTaken;
 use crate::pieces::Pieces;
-use crate::taken::Taken;
 use job_loop::Lent;
 use opus_feed::{Framing, Padding};
 use opus_io::NoMemory;
@@ -36,6 +36,8 @@ impl Undelimited {
 
 impl PayloadReader for Undelimited {
     ghost use Rattle.opus_feed.specs.declared.padding.Padding.{Padding};
+    ghost use Rattle.pack_records.specs.Raw.{RawSettles};
+    ghost use Rattle.pack_records.specs.RawLaws.{raw_says};
     ghost use Rattle.pack_records.specs.Undelimited.{packet_reading};
     ghost use Rattle.pack_records.specs.UndelimitedLaws.{packet_lawful};
 
@@ -44,6 +46,8 @@ impl PayloadReader for Undelimited {
     ghost Layout = { Padding };
 
     ghost reads = { packet_reading };
+
+    ghost settles = { λ _. RawSettles };
 
     #[inline(always)]
     fn here(&mut self, start: u64, range: u32, before: usize, own: &[u8]) -> bool {
@@ -58,10 +62,10 @@ impl PayloadReader for Undelimited {
     #[inline(always)]
     fn take(&mut self, start: u64, range: u32, at: u64, piece: &[u8]) -> Option<usize> {
         match self.pieces.take(start, range, at, piece) {
-            Taken::More => None,
+            PieceTaken::More => None,
             // An undelimited packet never ends within a piece.
-            Taken::Packet(count) => Some(count),
-            Taken::Bad(count) => Some(count),
+            PieceTaken::Packet(count) => Some(count),
+            PieceTaken::Bad(count) => Some(count),
         }
     }
 
@@ -81,4 +85,6 @@ impl PayloadReader for Undelimited {
     }
 
     ghost lawful = { packet_lawful };
+
+    ghost says = { λ _. raw_says };
 }

@@ -2,7 +2,6 @@ mod StandardFacts
 pub mod TurnLemmas
 pub mod LentLemmas
 pub mod TakenLemmas
-pub mod RawLemmas
 pub mod DemoFronts
 mod StreamKinds
 mod OrderLemmas

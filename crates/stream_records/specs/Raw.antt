@@ -1,12 +1,12 @@
 -- An input that is one multistream packet (RFC 7845, section 3), or none.
-use Rattle.std.specs.Prelude.{◌≡◌, ℕ, List, [], ◌∷◌, Bool, true, false, Option, None, ◌⊎◌}
+use Rattle.std.specs.Prelude.{◌≡◌, ℕ, List, [], ◌∷◌, Option, ◌⊎◌}
 use Rattle.job_loop.specs.Shown.{Shown}
 use Rattle.opus_packet.specs.PacketPrefix.{AreBytes}
 use Rattle.pack_records.specs.declared.cut.Cut.{Cut}
+use Rattle.pack_records.specs.OnePayload.{Ends}
 use Rattle.stream_records.specs.declared.item.StreamsItem.{StreamsItem}
-use Rattle.stream_records.specs.declared.stream_pieces.StreamPieces.{StreamPieces}
-use Rattle.stream_records.specs.Holds.{Choices, Holds, ShowsEarly}
-use Rattle.stream_records.specs.StreamPieces.{Reads}
+use Rattle.stream_records.specs.Holds.{Choices, ShowsEarly}
+use Rattle.stream_records.specs.StreamReading.{streams_show}
 
 -- a stream doesn't read however the bytes go on, and one record shows it
 pub record EarlyRecord (count : ℕ) (h : List ℕ) (rs : List (Shown StreamsItem)) : Type 0 where
@@ -25,19 +25,5 @@ pub record RawSettles (c : Choices) (h : List ℕ) (rs : List (Shown StreamsItem
   pub shows : EarlyRecord c.streams h rs ⊎ NoRecord c.streams h rs
 
 -- the whole input is one record, which shows what it holds; it is never cut
-pub record RawEnds (c : Choices) (h : List ℕ) (rs : List (Shown StreamsItem)) (cut : Option Cut) : Type 0 where
-  pub are_bytes : AreBytes h
-  pub shown : Shown StreamsItem
-  pub holds : Holds c 0 0 h shown
-  pub records_are : rs ≡ shown ∷ []
-  pub cut_is : cut ≡ None
-
--- the record stands, or the bytes are those of a packet that isn't whole
-abbrev pub RawAt : Bool → StreamPieces → List ℕ → List (Shown StreamsItem) → Type 0
-RawAt true p h rs = EarlyRecord p.streams h rs
-RawAt false p h rs = Reads p 0 h × (rs ≡ [])
-
--- a machine was fed these bytes, and these records stand
-pub record RawStands (over : Bool) (p : StreamPieces) (h : List ℕ) (rs : List (Shown StreamsItem)) : Type 0 where
-  pub are_bytes : AreBytes h
-  pub at : RawAt over p h rs
+abbrev pub RawEnds : Choices → List ℕ → List (Shown StreamsItem) → Option Cut → Type 0
+RawEnds c = Ends (streams_show c)

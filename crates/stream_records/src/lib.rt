@@ -11,9 +11,11 @@ mod item;
 pub mod laws;
 mod raw;
 mod stream_pieces;
+mod streams_form;
 #[cfg(test)]
 mod tests;
 
 pub use demo::DemoStreams;
 pub use item::{Spelling, StreamsFound, StreamsItem};
 pub use raw::RawStreams;
+pub use streams_form::StreamsForm;

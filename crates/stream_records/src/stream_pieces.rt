@@ -9,6 +9,7 @@ use arrayvec::ArrayVec;
 use job_loop::Lent;
 use opus_feed::{Feed, Framing, Padding, Step};
 use opus_io::NoMemory;
+use opus_multi::framing_at;
 use opus_packet::Fault;
 use pack_records::{MOST_KEPT, PayloadReader, append_form};
 use std::alloc::Global;
@@ -50,6 +51,7 @@ impl StreamPieces {
         ensures reads { IfOk result (λ p. Reads p 0 []) }
         ensures streams { IfOk result (λ p. p.streams ≡ streams) }
         ensures padding { IfOk result (λ p. p.feed.padding ≡ padding) }
+        ensures memory { IfOk result (λ p. vec_capacity p.kept ≡ 192628 * streams) }
     {
         Ok(StreamPieces {
             streams,
@@ -198,6 +200,8 @@ impl StreamPieces {
 
 impl PayloadReader for StreamPieces {
     ghost use Rattle.stream_records.specs.Holds.{Choices};
+    ghost use Rattle.stream_records.specs.Raw.{RawSettles};
+    ghost use Rattle.stream_records.specs.RawLaws.{raw_says};
     ghost use Rattle.stream_records.specs.StreamReading.{streams_reading};
     ghost use Rattle.stream_records.specs.StreamReadingLaws.{streams_lawful};
 
@@ -206,6 +210,8 @@ impl PayloadReader for StreamPieces {
     ghost Layout = { Choices };
 
     ghost reads = { streams_reading };
+
+    ghost settles = { RawSettles };
 
     // The kept forms of several streams never lie where they were read.
     fn here(&mut self, start: u64, range: u32, before: usize, own: &[u8]) -> bool {
@@ -255,18 +261,8 @@ impl PayloadReader for StreamPieces {
     }
 
     ghost lawful = { streams_lawful };
-}
 
-// Which packets stream `k` of so many is read from: all but the last are self-delimited.
-fn framing_at(streams: u8, k: usize) -> Framing
-    requires { k ≤ streams }
-    ensures { result ≡ framing_of streams k }
-{
-    if k + 1 < usize::from(streams) {
-        Framing::SelfDelimited
-    } else {
-        Framing::Whole
-    }
+    ghost says = { raw_says };
 }
 
 // The bytes from a place on.

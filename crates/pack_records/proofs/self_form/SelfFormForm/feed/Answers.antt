@@ -3,13 +3,13 @@ use Rattle.job_loop.specs.Shown.{Shown}
 use Rattle.job_loop.specs.Forms.{HasFed}
 use Rattle.opus_packet.proofs.BytesLemmas.{AreBytes-from, AreBytes-take}
 use Rattle.opus_feed.specs.declared.framing.Framing.TheVariants.{SelfDelimited}
-use Rattle.pack_records.specs.declared.framed.Mode.TheVariants.{Fresh}
+use Rattle.pack_records.specs.declared.self_form.Mode.TheVariants.{Fresh}
 use Rattle.pack_records.specs.declared.item.Item.{Item}
 use Rattle.pack_records.specs.Framed.{SelfStands}
 use Rattle.pack_records.specs.Holds.{HoldsPacket}
 use Rattle.pack_records.specs.Pieces.{shown_by}
 use Rattle.pack_records.proofs.FramedLemmas.{fresh_fed, within_fed, self_over}
-use Rattle.pack_records.proofs.framed.SelfFormForm.feed.Goals as goal
+use Rattle.pack_records.proofs.self_form.SelfFormForm.feed.Goals as goal
 
 pub returns-in-Some-clause-fed : goal.returns-in-Some-clause-fed
 returns-in-Some-clause-fed c = λ h rs stands size.

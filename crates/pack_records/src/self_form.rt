@@ -4,15 +4,15 @@ ghost use Rattle.opus_io.specs.Reader.{max_input};
 ghost use Rattle.job_loop.specs.Shown.{Shown};
 ghost use Rattle.opus_feed.specs.declared.framing.Framing.TheVariants.{SelfDelimited};
 ghost use Rattle.opus_feed.specs.declared.padding.Padding.{Padding as PaddingChoice};
-ghost use Rattle.pack_records.specs.declared.framed.Mode.TheVariants.{Within as WithinMode};
+ghost use Rattle.pack_records.specs.declared.self_form.Mode.TheVariants.{Within as WithinMode};
 ghost use Rattle.pack_records.specs.Pieces.{shown_by, PieceStands, IsReady};
 ghost use Rattle.pack_records.specs.Framed.{SelfSettles, SelfEnds, SelfStands, HasRead};
 ghost use Rattle.pack_records.specs.FramedLaws.{self_settled, self_grows, self_ends_grow, self_ends_once};
 
 use crate::cut::Cut;
 use crate::item::Item;
+use crate::piece_taken::PieceTaken;
 use crate::pieces::Pieces;
-use crate::taken::Taken;
 use job_loop::{Close, Fed, Form, Lent};
 use opus_feed::{Framing, Padding};
 use opus_io::NoMemory;
@@ -93,15 +93,15 @@ impl SelfForm {
         ensures ready { result.whole ≡ true → IsReady self.new.pieces (take result.count piece.now) }
     {
         match self.pieces.take(self.start, 0, at, piece) {
-            Taken::More => Fed {
+            PieceTaken::More => Fed {
                 count: piece.len(),
                 whole: false,
             },
-            Taken::Packet(count) => {
+            PieceTaken::Packet(count) => {
                 self.mode = Mode::Fresh;
                 Fed { count, whole: true }
             }
-            Taken::Bad(count) => {
+            PieceTaken::Bad(count) => {
                 self.mode = Mode::Over;
                 Fed { count, whole: true }
             }

@@ -2,7 +2,7 @@
 
 /// What became of a piece of a packet.
 #[derive(Clone, Copy)]
-pub(crate) enum Taken {
+pub(crate) enum PieceTaken {
     /// All of it was taken, and nothing is decided yet.
     More,
     /// A packet is whole behind so many bytes of it.

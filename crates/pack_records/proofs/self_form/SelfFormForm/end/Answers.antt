@@ -3,7 +3,7 @@ use Rattle.pack_records.specs.Framed.{SelfStands}
 use Rattle.pack_records.specs.Holds.{Holds}
 use Rattle.pack_records.specs.Pieces.{shown_by}
 use Rattle.pack_records.proofs.FramedLemmas.{fresh_ends, over_ends, within_ends}
-use Rattle.pack_records.proofs.framed.SelfFormForm.end.Goals as goal
+use Rattle.pack_records.proofs.self_form.SelfFormForm.end.Goals as goal
 
 pub returns-in-Within-clause-ends : goal.returns-in-Within-clause-ends
 returns-in-Within-clause-ends c = λ h rs stands size own.

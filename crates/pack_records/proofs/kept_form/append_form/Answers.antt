@@ -4,7 +4,7 @@ use Rattle.opus_packet.specs.Tail.{kept_bytes}
 use Rattle.opus_packet.proofs.SpellingLemmas.{kept_form-nil}
 use Rattle.opus_writer.proofs.FormLemmas.{kept_self-nil}
 use Rattle.pack_records.specs.Fits.{form_of}
-use Rattle.pack_records.proofs.form.append_form.Goals as goal
+use Rattle.pack_records.proofs.kept_form.append_form.Goals as goal
 
 whole : (c : goal.After-unwrap-in-Whole-Dropped) → c.write_canon.new.out.items ≡ c.args.out.now.items ++ canonical c.args.packet.now.value
 whole c = search rules
