@@ -1,5 +1,5 @@
 -- What the words say of the input of a job.
-use Rattle.std.specs.Prelude.{unwrap_or}
+use Rattle.std.specs.Prelude.{ℕ, unwrap_or, max}
 use Rattle.opus_feed.specs.declared.padding.Padding.{Padding}
 use Rattle.opus_feed.specs.declared.padding.Padding.TheVariants.{Drop}
 use Rattle.opus_words.specs.declared.form.Form.{Form}
@@ -12,3 +12,7 @@ form_in job = unwrap_or job.form Raw
 
 abbrev pub padding_in : Job → Padding
 padding_in job = unwrap_or job.padding Drop
+
+-- how many streams a packet has, or records a group: one at least, also where the words name none
+abbrev pub stream_count : Job → ℕ
+stream_count job = max 1 (unwrap_or job.streams 1)

@@ -3,3 +3,4 @@ pub mod Choices
 pub mod Refusal
 pub mod Each
 pub mod EachStands
+pub mod First

@@ -8,7 +8,7 @@ ghost use Rattle.job_ends.specs.Refusal.{told};
 ghost use Rattle.job_ends.specs.Each.{Made, made_step, each};
 
 use crate::cut::CutReason;
-use crate::refusal::Refusal;
+use crate::refusal::{Answer, Refusal};
 use job_loop::{InputEnd, JobStop, Lent, Numbers, RecordJob};
 use opus_io::Sink;
 
@@ -21,12 +21,7 @@ pub trait Make<N: Numbers, C> {
     ghost made: { Self → ℕ → Shown N → Made Self.Why };
 
     /// Writes what becomes of a record, or tells why the input is refused. The record's number is told with it.
-    fn make<O: Sink>(
-        &mut self,
-        number: u64,
-        item: &Lent<'_, N>,
-        out: &mut O,
-    ) -> Result<(), JobStop<Refusal<Self::Why>>>
+    fn make<O: Sink>(&mut self, number: u64, item: &Lent<'_, N>, out: &mut O) -> Answer<Self::Why>
         requires fits { N.fits item.now.item item.now.bytes }
         ensures same { made self.new ≡ made self.old }
         ensures ok { OnOk result (Goes (made_step number number (made self.old number item.now))
@@ -69,29 +64,19 @@ impl<N: Numbers, C, M: Make<N, C>> RecordJob<N, C> for Each<M> {
 
     ghost stands = { EachStands };
 
-    ghost lacks = { λ _. ⊥ };
-
     #[inline]
     fn opening(&self) -> &[u8] {
         &[]
     }
 
     #[inline(always)]
-    fn take<O: Sink>(
-        &mut self,
-        item: &Lent<'_, N>,
-        out: &mut O,
-    ) -> Result<(), JobStop<Refusal<M::Why>>> {
+    fn take<O: Sink>(&mut self, item: &Lent<'_, N>, out: &mut O) -> Answer<M::Why> {
         self.make.make(self.count, item, out)?;
         self.count = self.count.saturating_add(1);
         Ok(())
     }
 
-    fn finish<O: Sink>(
-        &mut self,
-        end: &InputEnd<C>,
-        _: &mut O,
-    ) -> Result<(), JobStop<Refusal<M::Why>>> {
+    fn finish<O: Sink>(&mut self, end: &InputEnd<C>, _: &mut O) -> Answer<M::Why> {
         match end {
             InputEnd::Cut(cut) => Err(JobStop::Refused(M::Why::cut(self.count, cut))),
             _ => Ok(()),

@@ -5,15 +5,16 @@ ghost use Rattle.job_loop.specs.Shown.{Shown};
 ghost use Rattle.job_loop.specs.Meaning.{Meaning};
 ghost use Rattle.job_ends.specs.Ends.{MeaningEnds, seen_as};
 
-use crate::run::run_made;
+use crate::run::run_told;
 use crate::told::Told;
 use job_loop::{Form, RecordJob};
 use opus_io::{NoMemory, Sink, Source};
 use opus_words::Ending;
 use std::alloc::Global;
 
-/// Runs a job over records of a form, whose own memory was taken before, if there was some: that of the form, which was fed
-/// nothing yet, and that of the job. It reads `source` up to `limit` bytes, from 1 to 2^40, and writes to `out`.
+/// Runs a job over records of a form, which both take no more memory, and whose own was taken before, if there was some: that
+/// of the form, which was fed nothing yet, and that of the job. It reads `source` up to `limit` bytes, from 1 to 2^40, and
+/// writes to `out`.
 pub fn run_over<F, J, R, S, O>(
     alloc: Global,
     limit: u64,
@@ -43,8 +44,11 @@ where
         (seen_as (S.left source.new) (S.faults source.new) (O.contents out.new) (O.faults out.new) (O.refusals out.new))
         (source.new ≡ source.old) result }
 {
-    match records {
-        Ok(records) => run_made(alloc, limit, records, made, source, out),
+    let Ok(records) = records else {
+        return Ending::NoMemory;
+    };
+    match made {
+        Ok(mut job) => run_told(alloc, limit, records, &mut job, source, out),
         Err(NoMemory) => Ending::NoMemory,
     }
 }

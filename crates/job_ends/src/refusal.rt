@@ -4,6 +4,7 @@ ghost use Rattle.arrayvec.specs.ArrayString.{array_string_len};
 
 use crate::told::Told;
 use arrayvec::ArrayString;
+use job_loop::JobStop;
 use opus_words::JobFault;
 
 /// A reason to refuse an input.
@@ -26,6 +27,9 @@ pub struct Refusal<W> {
     /// What is wrong there.
     pub why: W,
 }
+
+/// What a job answers that refuses an input for a `W`: it goes on, or why it stops.
+pub type Answer<W> = Result<(), JobStop<Refusal<W>>>;
 
 impl<W> Refusal<W> {
     ghost use Rattle.job_ends.specs.Refusal.{refusal_of};

@@ -1,13 +1,11 @@
 //! A run of a job over records of a form, as the program tells its end.
-ghost use Rattle.std.specs.Prelude.{◌≡◌, ◌⊎◌, ◌≤◌, [], IfOk};
+ghost use Rattle.std.specs.Prelude.{◌≡◌, ◌⊎◌, ◌≤◌, []};
 ghost use Rattle.opus_io.specs.Reader.{max_input};
-ghost use Rattle.job_loop.specs.Shown.{Shown};
-ghost use Rattle.job_loop.specs.Meaning.{Meaning};
 ghost use Rattle.job_ends.specs.Ends.{MeaningEnds, TellsEnding, seen_as};
 
 use crate::told::Told;
 use job_loop::{Ending as LoopEnding, Form, RecordJob, run_job};
-use opus_io::{NoMemory, Sink, Source};
+use opus_io::{Sink, Source};
 use opus_words::Ending;
 use std::alloc::Global;
 
@@ -41,41 +39,6 @@ where
         ((J.lacks job.old ⊎ F.lacks (F.layout records)) ⊎ source.new ≡ source.old) result }
 {
     ending_of(run_job(alloc, limit, records, job, source, out))
-}
-
-/// The same for a form that takes no more memory and a job whose own was taken before, if there was some, and that takes
-/// no more either.
-pub fn run_made<F, J, R, S, O>(
-    alloc: Global,
-    limit: u64,
-    records: F,
-    made: Result<J, NoMemory>,
-    source: &mut S,
-    out: &mut O,
-) -> Ending
-where
-    F: Form + Drop,
-    R: Told,
-    J: RecordJob<F::Record, F::Cut, Refusal = R> + Drop,
-    S: Source,
-    O: Sink,
-    requires some { 1 ≤ limit }
-    requires most { limit ≤ max_input }
-    requires stands { F.stands records [] [] }
-    requires start { IfOk made (λ j. J.stands j (J.meaning j).start) }
-    requires spared { IfOk made (λ j. J.lacks j → ⊥) }
-    requires form_spared { F.lacks (F.layout records) → ⊥ }
-    // Want of memory comes only where nothing was read, or the sink refused to grow.
-    ensures { (m : Meaning (Shown F.Record) J.Kept F.Cut R) → IfOk made (λ j. J.meaning j ≡ m)
-        → MeaningEnds R.tells F.place m (F.settles (F.layout records)) (F.ends (F.layout records)) limit
-        (seen_as (S.left source.old) (S.faults source.old) (O.contents out.old) (O.faults out.old) (O.refusals out.old))
-        (seen_as (S.left source.new) (S.faults source.new) (O.contents out.new) (O.faults out.new) (O.refusals out.new))
-        (source.new ≡ source.old) result }
-{
-    match made {
-        Ok(mut job) => run_told(alloc, limit, records, &mut job, source, out),
-        Err(NoMemory) => Ending::NoMemory,
-    }
 }
 
 // The program's ending, with the text of a refusal.

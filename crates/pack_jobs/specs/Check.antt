@@ -4,16 +4,15 @@ use Rattle.std.specs.Prelude.{ℕ, ◌+◌, List, [], ◌∷◌, ◌++◌, Optio
 use Rattle.job_loop.specs.Shown.{Shown}
 use Rattle.job_loop.specs.Meaning.{Meaning, Step, goes, stops}
 use Rattle.job_loop.specs.declared.input_end.InputEnd.{InputEnd}
-use Rattle.job_loop.specs.declared.input_end.InputEnd.TheVariants as ends
 use Rattle.opus_words.specs.declared.form.Form.{Form}
 use Rattle.opus_words.specs.declared.form.Form.TheVariants.{Raw, Demo, SelfDelimited}
 use Rattle.pack_records.specs.declared.cut.Cut.{Cut}
 use Rattle.pack_records.specs.declared.item.Found.{Found}
 use Rattle.pack_records.specs.declared.item.Found.TheVariants.{Packet, Lost, Bad}
 use Rattle.pack_records.specs.declared.item.Item.{Item}
-use Rattle.pack_jobs.specs.declared.refusal.Why.TheVariants.{StoreCut}
-use Rattle.pack_jobs.specs.Refusal.{refusal_at, fault_text, Refusal}
-use Rattle.job_ends.specs.Refusal.{told, refusal_of}
+use Rattle.pack_jobs.specs.Refusal.{refusal_at, cut_refusal, fault_text, Refusal}
+use Rattle.job_ends.specs.Refusal.{told}
+use Rattle.job_ends.specs.First.{first_end}
 
 -- the number of records so far, and the first refusal
 pub record CheckKept : Type 0 where
@@ -58,15 +57,9 @@ check_found SelfDelimited k item (Bad fault) =
     stops (check_line (told k.count) (fault_text fault))
     (first_refusal k.first (refusal_at (told k.count) item fault))
 
--- a closed input is refused for the first refusal, if there is one
-abbrev pub check_closed : Option Refusal → Step (Unit {0}) Refusal
-check_closed None = goes [] tt
-check_closed (Some refusal) = stops [] refusal
-
+-- an input is refused in the end for the first refusal, or else for its cut
 abbrev pub check_end : CheckKept → InputEnd Cut → Step (Unit {0}) Refusal
-check_end k ends.Closed = check_closed k.first
-check_end k (ends.Cut cut) = stops [] (first_refusal k.first (refusal_of (told k.count) cut.place StoreCut))
-check_end k ends.Past = goes [] tt
+check_end k end = first_end cut_refusal (told k.count) k.first end
 
 abbrev pub check : Form → Meaning (Shown Item) CheckKept Cut Refusal
 check form = record {

@@ -1,4 +1,5 @@
 pub mod Refusal
+pub mod Named
 pub mod Records
 pub mod Norm
 pub mod Check

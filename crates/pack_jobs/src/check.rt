@@ -5,13 +5,11 @@ ghost use Rattle.opus_io.specs.Sink.{SinkCause, Onward};
 ghost use Rattle.job_loop.specs.Telling.{Front};
 ghost use Rattle.pack_jobs.specs.Check.{check, CheckKept, check_line, first_refusal};
 ghost use Rattle.pack_jobs.specs.Refusal.{fault_text};
-ghost use Rattle.job_ends.specs.Refusal.{refusal_of};
-ghost use Rattle.pack_jobs.specs.declared.refusal.Why.TheVariants.{StoreCut};
 
 use crate::line::Line;
 use crate::refusal::{Refusal, Why, refusal_at};
 use crate::text::fault_text;
-use job_ends::CutReason;
+use job_ends::{Answer, end_by_first};
 use job_loop::{InputEnd, JobStop, Lent, RecordJob};
 use opus_io::{Sink, SinkStop, write_all};
 use opus_packet::Fault;
@@ -67,17 +65,11 @@ impl RecordJob<Item, Cut> for Check {
 
     ghost stands = { CheckStands };
 
-    ghost lacks = { λ _. ⊥ };
-
     fn opening(&self) -> &[u8] {
         &[]
     }
 
-    fn take<O: Sink>(
-        &mut self,
-        item: &Lent<'_, Item>,
-        out: &mut O,
-    ) -> Result<(), JobStop<Refusal>> {
+    fn take<O: Sink>(&mut self, item: &Lent<'_, Item>, out: &mut O) -> Answer<Why> {
         match item.item().found {
             Found::Packet { .. } => write_word(self.count, b"ok", out)?,
             Found::Lost => write_word(self.count, b"lost", out)?,
@@ -93,18 +85,8 @@ impl RecordJob<Item, Cut> for Check {
         Ok(())
     }
 
-    fn finish<O: Sink>(&mut self, end: &InputEnd<Cut>, _: &mut O) -> Result<(), JobStop<Refusal>> {
-        match end {
-            InputEnd::Closed => match self.first {
-                Some(first) => Err(JobStop::Refused(first)),
-                None => Ok(()),
-            },
-            InputEnd::Cut(cut) => {
-                let cut = Why::cut(self.count, cut);
-                Err(JobStop::Refused(self.first.unwrap_or(cut)))
-            }
-            InputEnd::Past => Ok(()),
-        }
+    fn finish<O: Sink>(&mut self, end: &InputEnd<Cut>, _: &mut O) -> Answer<Why> {
+        end_by_first(self.first, self.count, end)
     }
 }
 

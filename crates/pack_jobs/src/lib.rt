@@ -25,4 +25,4 @@ pub use pack::pack_job;
 pub use packet_lines::write_packet_lines;
 pub use record::{write_packet, write_record};
 pub use refusal::{Refusal, Why, refusal_at};
-pub use text::{decimal_text, fault_text};
+pub use text::{decimal_text, fault_text, push_named};

@@ -9,7 +9,7 @@ ghost use Rattle.pack_jobs.specs.Merge.{merge, MergeKept, put_behind, lent_behin
 
 use crate::record::{write_packet, write_record};
 use crate::refusal::{Refusal, Why, refusal_at};
-use job_ends::CutReason;
+use job_ends::{Answer, CutReason};
 use job_loop::{InputEnd, JobStop, Lent, RecordJob};
 use opus_feed::Framing;
 use opus_io::{NoMemory, Sink, SinkStop};
@@ -157,27 +157,21 @@ impl Merge {
 }
 
 impl RecordJob<Item, Cut> for Merge {
-    ghost use Rattle.pack_jobs.specs.MergeStands.{merge_job, MergeStands};
+    ghost use Rattle.pack_jobs.specs.MergeStands.{MergeStands};
 
     type Refusal = Refusal;
 
     ghost Kept = { MergeKept };
 
-    ghost meaning = { merge_job };
+    ghost meaning = { λ m. merge m.form m.most };
 
     ghost stands = { MergeStands };
-
-    ghost lacks = { λ _. ⊥ };
 
     fn opening(&self) -> &[u8] {
         &[]
     }
 
-    fn take<O: Sink>(
-        &mut self,
-        item: &Lent<'_, Item>,
-        out: &mut O,
-    ) -> Result<(), JobStop<Refusal>> {
+    fn take<O: Sink>(&mut self, item: &Lent<'_, Item>, out: &mut O) -> Answer<Why> {
         let record = item.item();
         match record.found {
             Found::Packet { framing, .. } => {
@@ -195,11 +189,7 @@ impl RecordJob<Item, Cut> for Merge {
         Ok(())
     }
 
-    fn finish<O: Sink>(
-        &mut self,
-        end: &InputEnd<Cut>,
-        out: &mut O,
-    ) -> Result<(), JobStop<Refusal>> {
+    fn finish<O: Sink>(&mut self, end: &InputEnd<Cut>, out: &mut O) -> Answer<Why> {
         match end {
             InputEnd::Closed => self.close(out)?,
             InputEnd::Cut(cut) => return Err(JobStop::Refused(Why::cut(self.count, cut))),

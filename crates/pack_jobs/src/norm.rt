@@ -4,7 +4,7 @@ ghost use Rattle.pack_jobs.specs.Norm.{is_long, norm_found};
 
 use crate::record::write_record;
 use crate::refusal::{Refusal, Why, refusal_at};
-use job_ends::Make;
+use job_ends::{Answer, Make};
 use job_loop::{JobStop, Lent};
 use opus_feed::Padding;
 use opus_io::Sink;
@@ -40,12 +40,7 @@ impl Make<Item, Cut> for Norm {
     ghost made = { λ n number r. norm_found n.form n.padding r r.item.found };
 
     #[inline(always)]
-    fn make<O: Sink>(
-        &mut self,
-        number: u64,
-        item: &Lent<'_, Item>,
-        out: &mut O,
-    ) -> Result<(), JobStop<Refusal>> {
+    fn make<O: Sink>(&mut self, number: u64, item: &Lent<'_, Item>, out: &mut O) -> Answer<Why> {
         let record = item.item();
         match record.found {
             Found::Packet { shape, .. } => {

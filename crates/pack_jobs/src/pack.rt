@@ -1,6 +1,5 @@
 //! The jobs over packets, by their kinds and forms.
 ghost use Rattle.std.specs.Prelude.{◌≡◌, ◌≤◌, [], IfOk};
-ghost use Rattle.opus_io.specs.Reader.{max_input};
 ghost use Rattle.job_ends.specs.Ends.{seen_as};
 ghost use Rattle.job_ends.specs.Choices.{form_in, padding_in};
 ghost use Rattle.pack_jobs.specs.PackEnds.{IsPackKind, IsPackJob, PackEnds, JobEnds, place_of, most_in, size_in};
@@ -11,12 +10,11 @@ use crate::norm::Norm;
 use crate::pad::Pad;
 use crate::show::Show;
 use crate::split::Split;
-use job_ends::{Each, form_in, padding_in, run_over};
+use job_ends::{Each, Task, form_in, padding_in, run_over};
 use job_loop::Form as RecordForm;
 use opus_io::{NoMemory, Sink, Source};
 use opus_words::{Ending, Form, Job, JobKind};
 use pack_records::{Cut, DemoForm, Item, RawForm, SelfForm};
-use std::alloc::Global;
 
 // The frames of a piece.
 fn most_in(job: &Job) -> usize
@@ -33,53 +31,28 @@ fn size_in(job: &Job) -> u32
     job.size.unwrap_or(0)
 }
 
-/// Does a job over packets: reads `source` up to `limit` bytes, from 1 to 2^40, and writes to `out`.
+/// Does a job over packets: reads `source` up to the task's limit, and writes to `out`.
 ///
 /// What the bytes read settle is written before the next read. All memory is taken before the first read.
-pub fn pack_job<S: Source, O: Sink>(
-    alloc: Global,
-    job: &Job,
-    limit: u64,
-    source: &mut S,
-    out: &mut O,
-) -> Ending
-    requires some { 1 ≤ limit }
-    requires most { limit ≤ max_input }
-    requires job { IsPackJob job.now }
-    ensures { PackEnds job.now limit
+pub fn pack_job<S: Source, O: Sink>(task: Task<'_>, source: &mut S, out: &mut O) -> Ending
+    requires { IsPackJob task.job.now }
+    ensures { PackEnds task.entry.job.now task.entry.limit
         (seen_as (S.left source.old) (S.faults source.old) (O.contents out.old) (O.faults out.old) (O.refusals out.old))
         (seen_as (S.left source.new) (S.faults source.new) (O.contents out.new) (O.faults out.new) (O.refusals out.new))
         (source.new ≡ source.old) result }
 {
-    let padding = padding_in(job);
-    match form_in(job) {
-        Form::Raw => run_kind(alloc, job, limit, RawForm::new(alloc, padding), source, out),
-        Form::Demo => run_kind(
-            alloc,
-            job,
-            limit,
-            DemoForm::new(alloc, padding),
-            source,
-            out,
-        ),
-        Form::SelfDelimited => {
-            run_kind(
-                alloc,
-                job,
-                limit,
-                SelfForm::new(alloc, padding),
-                source,
-                out,
-            )
-        }
+    let alloc = task.alloc;
+    let padding = padding_in(task.job);
+    match form_in(task.job) {
+        Form::Raw => run_kind(task, RawForm::new(alloc, padding), source, out),
+        Form::Demo => run_kind(task, DemoForm::new(alloc, padding), source, out),
+        Form::SelfDelimited => run_kind(task, SelfForm::new(alloc, padding), source, out),
     }
 }
 
 // Does a job over records of a form, if there was memory for it: one line a job.
 fn run_kind<F, S, O>(
-    alloc: Global,
-    job: &Job,
-    limit: u64,
+    task: Task<'_>,
     records: Result<F, NoMemory>,
     source: &mut S,
     out: &mut O,
@@ -88,18 +61,17 @@ where
     F: RecordForm<Record = Item, Cut = Cut> + Drop,
     S: Source,
     O: Sink,
-    requires some { 1 ≤ limit }
-    requires most { limit ≤ max_input }
-    requires kind { IsPackKind job.now.kind }
+    requires kind { IsPackKind task.job.now.kind }
     requires stands { IfOk records (λ f. F.stands f [] []) }
     requires place { F.place ≡ place_of }
     requires form_spared { (layout : F.Layout) → F.lacks layout → ⊥ }
     ensures { (layout : F.Layout) → IfOk records (λ f. F.layout f ≡ layout) → F.settles layout [] []
-        → JobEnds job.now (F.settles layout) (F.ends layout) limit
+        → JobEnds task.entry.job.now (F.settles layout) (F.ends layout) task.entry.limit
         (seen_as (S.left source.old) (S.faults source.old) (O.contents out.old) (O.faults out.old) (O.refusals out.old))
         (seen_as (S.left source.new) (S.faults source.new) (O.contents out.new) (O.faults out.new) (O.refusals out.new))
         (source.new ≡ source.old) result }
 {
+    let Task { alloc, job, limit } = task;
     let form = form_in(job);
     match job.kind {
         JobKind::Norm => {

@@ -1,5 +1,5 @@
 //! The lines of a packet: one of the packet, and one of each of its frames.
-ghost use Rattle.std.specs.Prelude.{◌≡◌, ◌+◌, ◌≤◌, ◌++◌, OnOk, OnErr, length};
+ghost use Rattle.std.specs.Prelude.{◌≡◌, ◌+◌, ◌≤◌, ◌++◌, [], OnOk, OnErr, length};
 ghost use Rattle.std.specs.Io.KnownBytes.{Appends};
 ghost use Rattle.opus_io.specs.Sink.{SinkCause, Onward};
 ghost use Rattle.job_loop.specs.Telling.{Front};
@@ -35,36 +35,31 @@ pub fn write_packet_lines<O: Sink>(
         (O.refusals out.old) (O.refusals out.new) result }
     ensures onward { Onward (O.onto out.old) (O.onto out.new) (O.handed out.old) (O.handed out.new) }
 {
-    write_packet_line(number, stream, shape, size, packet, out)?;
+    let mut line = Line::<PACKET>::new();
+    push_packet(number, stream, shape, size, packet, &mut line);
+    write_all(out, line.as_slice())?;
     write_frame_lines(number, stream, packet, out)
 }
 
-// Writes the line of the packet.
+// Puts the line of the packet where no text is yet.
 #[tactic(auto, using(crate::proofs::PacketLineLemmas::packet_pieces))]
-fn write_packet_line<O: Sink>(
+fn push_packet(
     number: u64,
     stream: u8,
     shape: Shape,
     size: u32,
     packet: &Packet<'_>,
-    out: &mut O,
-) -> Result<(), SinkStop>
-    ensures ok { OnOk result (Appends (O.contents out.old) (O.contents out.new)
-        (packet_line number stream shape size packet.now.value)) }
-    ensures front { OnErr result (Front (packet_line number stream shape size packet.now.value)
-        (O.contents out.old) (O.contents out.new)) }
-    ensures cause { SinkCause (O.faults out.old) (O.faults out.new)
-        (O.refusals out.old) (O.refusals out.new) result }
-    ensures onward { Onward (O.onto out.old) (O.onto out.new) (O.handed out.old) (O.handed out.new) }
+    line: &mut Line<PACKET>,
+)
+    requires { line.old ≡ [] }
+    ensures { line.new ≡ packet_line number stream shape size packet.now.value }
 {
-    let mut line = Line::<PACKET>::new();
     line.piece(b"\n");
-    push_spelling(shape, packet.count(), size, &mut line);
+    push_spelling(shape, packet.count(), size, line);
     line.piece(b", ");
-    push_kind(packet.toc(), &mut line);
+    push_kind(packet.toc(), line);
     line.piece(b": ");
-    push_stream(number, stream, &mut line);
-    write_all(out, line.as_slice())
+    push_stream(number, stream, line);
 }
 
 // Writes a line for each frame.

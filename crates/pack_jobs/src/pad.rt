@@ -4,7 +4,7 @@ ghost use Rattle.pack_jobs.specs.Pad.{pad, pad_found, padded_of};
 
 use crate::record::write_record;
 use crate::refusal::{Refusal, Why, refusal_at};
-use job_ends::{Each, Make};
+use job_ends::{Answer, Each, Make};
 use job_loop::{JobStop, Lent};
 use opus_io::{NoMemory, Sink};
 use opus_packet::Packet;
@@ -28,13 +28,14 @@ pub(crate) struct Pad {
 impl Pad {
     ghost use Rattle.std.specs.Prelude.{◌<◌, ◌≤◌, ◌^◌, vec_capacity};
     ghost use Rattle.job_ends.specs.EachStands.{EachStands};
-    ghost use Rattle.pack_jobs.specs.PadJob.{pad_job};
+    ghost use Rattle.pack_jobs.specs.PadJob.{pad_job, padded_room};
 
     /// The job over an input of this form, before its first record: packets of `size` bytes. It takes all memory that it
     /// needs, `size` bytes.
     pub(crate) fn job(alloc: Global, form: Form, size: u32) -> Result<Each<Pad>, NoMemory>
         ensures job { IfOk result (λ p. pad_job p ≡ pad form size) }
         ensures stands { IfOk result (λ p. EachStands p 0) }
+        ensures memory { IfOk result (λ p. padded_room p ≡ size) }
     {
         let padded = Vec::with_capacity(alloc, size as usize)?;
         Ok(Each::new(Pad { form, size, padded }))
@@ -71,14 +72,11 @@ impl Make<Item, Cut> for Pad {
     ghost made = { λ p number r. pad_found p.form p.size r r.item.found };
 
     #[inline(always)]
-    fn make<O: Sink>(
-        &mut self,
-        number: u64,
-        item: &Lent<'_, Item>,
-        out: &mut O,
-    ) -> Result<(), JobStop<Refusal>> {
+    fn make<O: Sink>(&mut self, number: u64, item: &Lent<'_, Item>, out: &mut O) -> Answer<Why> {
         let record = item.item();
         match record.found {
+            Found::Bad(fault) => return Err(JobStop::Refused(refusal_at(number, record, fault))),
+            Found::Lost => write_record(self.form, record.range, &[], out)?,
             Found::Packet { framing, .. } => {
                 if let Some(packet) = lent_packet(framing, item.bytes()) {
                     match self.fill(&packet) {
@@ -90,8 +88,6 @@ impl Make<Item, Cut> for Pad {
                     }
                 }
             }
-            Found::Lost => write_record(self.form, record.range, &[], out)?,
-            Found::Bad(fault) => return Err(JobStop::Refused(refusal_at(number, record, fault))),
         }
         Ok(())
     }

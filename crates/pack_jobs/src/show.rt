@@ -8,7 +8,7 @@ ghost use Rattle.pack_jobs.specs.Show.{show_found, lost_line};
 use crate::line::Line;
 use crate::packet_lines::write_packet_lines;
 use crate::refusal::{Refusal, Why, refusal_at};
-use job_ends::Make;
+use job_ends::{Answer, Make};
 use job_loop::{JobStop, Lent};
 use opus_io::{Sink, SinkStop, write_all};
 use pack_records::{Cut, Found, Item, lent_packet};
@@ -23,12 +23,7 @@ impl Make<Item, Cut> for Show {
     ghost made = { λ s number r. show_found number r r.item.found };
 
     #[inline(always)]
-    fn make<O: Sink>(
-        &mut self,
-        number: u64,
-        item: &Lent<'_, Item>,
-        out: &mut O,
-    ) -> Result<(), JobStop<Refusal>> {
+    fn make<O: Sink>(&mut self, number: u64, item: &Lent<'_, Item>, out: &mut O) -> Answer<Why> {
         let record = item.item();
         match record.found {
             Found::Packet {

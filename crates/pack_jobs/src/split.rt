@@ -7,7 +7,7 @@ ghost use Rattle.pack_jobs.specs.Split.{split, split_found, pieces, piece_record
 
 use crate::record::{write_packet, write_record};
 use crate::refusal::{Refusal, Why, refusal_at};
-use job_ends::{Each, Make};
+use job_ends::{Answer, Each, Make};
 use job_loop::{JobStop, Lent};
 use opus_io::{NoMemory, Sink, SinkStop};
 use opus_packet::Packet;
@@ -81,12 +81,7 @@ impl Make<Item, Cut> for Split {
     ghost made = { λ s number r. split_found s.form s.most r r.item.found };
 
     #[inline(always)]
-    fn make<O: Sink>(
-        &mut self,
-        number: u64,
-        item: &Lent<'_, Item>,
-        out: &mut O,
-    ) -> Result<(), JobStop<Refusal>> {
+    fn make<O: Sink>(&mut self, number: u64, item: &Lent<'_, Item>, out: &mut O) -> Answer<Why> {
         let record = item.item();
         match record.found {
             Found::Packet { framing, .. } => {

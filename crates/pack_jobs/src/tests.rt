@@ -7,6 +7,7 @@ mod show;
 
 use crate::pack_job;
 use arrayvec::ArrayString;
+use job_ends::Task;
 use opus_feed::Padding;
 use opus_io::{MemorySink, MemorySource};
 use opus_words::{Ending, Form, Job, JobFault, JobKind};
@@ -84,6 +85,11 @@ fn run(
     let mut sink = MemorySink::new(alloc, step.max(1), fails.1)?;
     let limit = limit.clamp(1, 1 << 40);
     let job = self::job(job.0, job.1);
-    let end = pack_job(alloc, &job, limit, &mut source, &mut sink);
+    let task = Task {
+        alloc,
+        job: &job,
+        limit,
+    };
+    let end = pack_job(task, &mut source, &mut sink);
     Ok((end, sink))
 }

@@ -1,6 +1,7 @@
 //! Texts in fixed memory, made at the end of a run.
 ghost use Rattle.std.specs.Prelude.{◌≡◌, ◌+◌, ◌≤◌, ◌<◌, ◌^◌, ◌++◌, ◌∷◌, [], length, decimal};
 ghost use Rattle.arrayvec.specs.ArrayString.{array_string_len};
+ghost use Rattle.pack_jobs.specs.Named.{named};
 ghost use Rattle.pack_jobs.specs.Refusal.{rule_name, fault_text, refusal_text};
 
 use crate::refusal::Why;
@@ -17,6 +18,18 @@ pub fn decimal_text(n: u64) -> ArrayString<20>
     let mut text = ArrayString::new();
     text.push_str(Buffer::new().format(n));
     text
+}
+
+/// Appends ` NAME N`.
+pub fn push_named<const N: usize>(line: &mut ArrayString<N>, name: &str, number: u64)
+    requires { array_string_len line.old + length name.now + 22 ≤ N }
+    ensures text { line.new.bytes ≡ line.old.bytes ++ named name.now number }
+    ensures len { array_string_len line.new ≤ array_string_len line.old + length name.now + 22 }
+{
+    line.push_str(" ");
+    line.push_str(name);
+    line.push_str(" ");
+    line.push_str(decimal_text(number).as_str());
 }
 
 /// `RULE at P`, where P counts from the first byte that could be a packet's.

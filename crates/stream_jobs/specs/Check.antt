@@ -1,17 +1,17 @@
 -- The job check: a line for each record. A bad record doesn't end the run, and the refusal at the end is the first one.
 use Rattle.std.specs.Prelude.{ℕ, ◌+◌, List, [], Option, Some, None, unwrap_or, codes}
 use Rattle.job_loop.specs.Shown.{Shown}
-use Rattle.job_loop.specs.Meaning.{Meaning, Step, goes, stops}
+use Rattle.job_loop.specs.Meaning.{Meaning, Step, goes}
 use Rattle.job_loop.specs.declared.input_end.InputEnd.{InputEnd}
-use Rattle.job_loop.specs.declared.input_end.InputEnd.TheVariants as ends
 use Rattle.pack_records.specs.declared.cut.Cut.{Cut}
 use Rattle.job_ends.specs.Refusal.{told, refusal_of}
+use Rattle.job_ends.specs.First.{first_end}
 use Rattle.pack_jobs.specs.Check.{check_line}
 use Rattle.stream_records.specs.declared.item.StreamsFound.{StreamsFound}
 use Rattle.stream_records.specs.declared.item.StreamsFound.TheVariants.{Packets, Lost, Broken, Unequal}
 use Rattle.stream_records.specs.declared.item.StreamsItem.{StreamsItem}
 use Rattle.stream_jobs.specs.declared.refusal.StreamWhy.TheVariants as why
-use Rattle.stream_jobs.specs.Refusal.{why_text, StreamRefusal}
+use Rattle.stream_jobs.specs.Refusal.{why_text, cut_refusal, StreamRefusal}
 use Rattle.stream_jobs.specs.Bad.{fault_why, bad_place}
 
 -- the number of records so far, and the first refusal
@@ -48,15 +48,9 @@ check_found streams k found =
     goes (check_line (told k.count) (found_text streams found))
     (kept_of (k.count + 1) (first_or k.first (bad_refusal streams (told k.count) found)))
 
--- a closed input is refused for the first refusal, if there is one
-abbrev pub check_closed : Option StreamRefusal → Step (Unit {0}) StreamRefusal
-check_closed None = goes [] tt
-check_closed (Some refusal) = stops [] refusal
-
+-- an input is refused in the end for the first refusal, or else for its cut
 abbrev pub check_end : CheckKept → InputEnd Cut → Step (Unit {0}) StreamRefusal
-check_end k ends.Closed = check_closed k.first
-check_end k (ends.Cut cut) = stops [] (unwrap_or k.first (refusal_of (told k.count) cut.place why.StoreCut))
-check_end k ends.Past = goes [] tt
+check_end k end = first_end cut_refusal (told k.count) k.first end
 
 -- records of so many streams
 abbrev pub check : ℕ → Meaning (Shown StreamsItem) CheckKept Cut StreamRefusal

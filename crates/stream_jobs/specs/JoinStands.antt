@@ -1,5 +1,5 @@
 -- What the object of the job join stands for.
-use Rattle.std.specs.Prelude.{◌≡◌, ℕ, List, [], ◌∷◌, length, flat_map, Option, None}
+use Rattle.std.specs.Prelude.{◌≡◌, ℕ, List, [], ◌∷◌, length, flat_map, Option, None, vec_capacity}
 use Rattle.job_loop.specs.Shown.{Shown}
 use Rattle.job_loop.specs.Meaning.{Meaning}
 use Rattle.opus_packet.specs.Value.{PacketValue}
@@ -15,6 +15,10 @@ use Rattle.stream_jobs.specs.Join.{Part, JoinKept, join, values_of, ranges_of, p
 -- the job with groups of as many records as the object's
 abbrev pub join_job : Join → Meaning (Shown Item) JoinKept Cut StreamRefusal
 join_job j = join j.streams
+
+-- bytes of the object's own memory, where the packets of a group are gathered
+abbrev pub group_room : Join → ℕ
+group_room j = vec_capacity j.bytes
 
 -- the first record of a group is lost, or has a packet that lasts so long
 abbrev pub IsFirst : Option ℕ → List Part → Type 0

@@ -1,5 +1,5 @@
 -- Which jobs `stream_job` does, and what it answers for each.
-use Rattle.std.specs.Prelude.{ℕ, List, unwrap_or, Option, max}
+use Rattle.std.specs.Prelude.{ℕ, List, unwrap_or, Option}
 use Rattle.opus_io.specs.Outside.{Outside}
 use Rattle.job_loop.specs.Shown.{Shown}
 use Rattle.job_loop.specs.Meaning.{Meaning}
@@ -11,7 +11,7 @@ use Rattle.opus_words.specs.declared.job.Job.{Job}
 use Rattle.opus_words.specs.declared.ending.Ending.{Ending}
 use Rattle.job_ends.specs.Ends as ends
 use Rattle.job_ends.specs.Ends.{RunOver}
-use Rattle.job_ends.specs.Choices.{padding_in}
+use Rattle.job_ends.specs.Choices.{padding_in, stream_count}
 use Rattle.pack_records.specs.declared.cut.Cut.{Cut}
 use Rattle.stream_records.specs.declared.item.StreamsItem.{StreamsItem}
 use Rattle.stream_records.specs.Holds.{Choices}
@@ -52,15 +52,12 @@ pub record IsStreamJob (job : Job) : Type 0 where
   pub kind : IsStreamKind job.kind
   pub form : IsStreamForm (form_of job)
 
--- How many streams a packet has: one at least, also where the words name none. Which of them is chosen.
-abbrev pub streams_of : Job → ℕ
-streams_of job = max 1 (unwrap_or job.streams 1)
-
+-- which stream of a packet is chosen
 abbrev pub stream_of : Job → ℕ
 stream_of job = unwrap_or job.stream 0
 
 abbrev pub choices_in : Job → Choices
-choices_in job = record { streams = streams_of job; padding = padding_in job }
+choices_in job = record { streams = stream_count job; padding = padding_in job }
 
 -- where a record was decided
 abbrev pub place_of : Shown StreamsItem → ℕ
@@ -72,11 +69,11 @@ MeaningEnds m = ends.MeaningEnds Tells place_of m
 
 -- what the job of a kind means over records of its form: one line a job
 abbrev pub KindEnds : JobKind → Job → RunOver (Shown StreamsItem) Cut
-KindEnds Norm job = MeaningEnds (norm (form_of job) (streams_of job) (padding_in job))
-KindEnds Check job = MeaningEnds (check (streams_of job))
-KindEnds Show job = MeaningEnds (show (streams_of job))
-KindEnds Apart job = MeaningEnds (apart (streams_of job))
-KindEnds Extract job = MeaningEnds (extract (streams_of job) (stream_of job))
+KindEnds Norm job = MeaningEnds (norm (form_of job) (stream_count job) (padding_in job))
+KindEnds Check job = MeaningEnds (check (stream_count job))
+KindEnds Show job = MeaningEnds (show (stream_count job))
+KindEnds Apart job = MeaningEnds (apart (stream_count job))
+KindEnds Extract job = MeaningEnds (extract (stream_count job) (stream_of job))
 KindEnds kind job = λ Settles Ends limit before after Untouched result. ⊥
 
 -- the job ended as its meaning has it, where Settles and Ends say which records its input has
@@ -93,6 +90,11 @@ abbrev pub ends_in : Form → Choices → List ℕ → List (Shown StreamsItem) 
 ends_in Raw c = RawEnds c
 ends_in Demo c = DemoEnds c
 ends_in SelfDelimited c = λ h rs cut. ⊥
+
+-- a job of this meaning ended as it has it, over the records of the form that these options name
+abbrev pub FormEnds : {K : Type 0} → Job → Meaning (Shown StreamsItem) K Cut StreamRefusal → ℕ → Outside → Outside → Type 0
+    → Ending → Type 0
+FormEnds job m = MeaningEnds m (settles_in (form_of job) (choices_in job)) (ends_in (form_of job) (choices_in job))
 
 -- the job ended as its meaning has it over the records of its form
 abbrev pub StreamEnds : Job → ℕ → Outside → Outside → Type 0 → Ending → Type 0

@@ -7,9 +7,9 @@ ghost use Rattle.stream_jobs.specs.StreamsIn.{streams_in};
 ghost use Rattle.stream_jobs.specs.Apart.{apart_makes, stream_records, lost_records};
 
 use crate::of_streams::MakeStreams;
-use crate::refusal::StreamRefusal;
+use crate::refusal::StreamAnswer;
 use crate::stream_packets::StreamPackets;
-use job_loop::{JobStop, Lent};
+use job_loop::Lent;
 use opus_io::{Sink, SinkStop};
 use opus_words::Form;
 use pack_jobs::{write_packet, write_record};
@@ -24,12 +24,7 @@ pub(crate) struct Apart {
 impl MakeStreams for Apart {
     ghost makes = { λ a. apart_makes a.streams };
 
-    fn packets<O: Sink>(
-        &self,
-        _: u64,
-        item: &Lent<'_, StreamsItem>,
-        out: &mut O,
-    ) -> Result<(), JobStop<StreamRefusal>> {
+    fn packets<O: Sink>(&self, _: u64, item: &Lent<'_, StreamsItem>, out: &mut O) -> StreamAnswer {
         write_streams(self.streams, item.bytes(), out)?;
         Ok(())
     }

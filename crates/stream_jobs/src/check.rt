@@ -9,10 +9,10 @@ ghost use Rattle.stream_jobs.specs.Refusal.{why_text};
 ghost use Rattle.job_ends.specs.Refusal.{refusal_of};
 
 use crate::bad::{bad_place, fault_why};
-use crate::refusal::{StreamRefusal, StreamWhy};
+use crate::refusal::{StreamAnswer, StreamRefusal, StreamWhy};
 use arrayvec::ArrayString;
-use job_ends::{CutReason, Reason};
-use job_loop::{InputEnd, JobStop, Lent, RecordJob};
+use job_ends::{Reason, end_by_first};
+use job_loop::{InputEnd, Lent, RecordJob};
 use opus_io::{Sink, SinkStop, write_all};
 use pack_jobs::decimal_text;
 use pack_records::Cut;
@@ -73,17 +73,11 @@ impl RecordJob<StreamsItem, Cut> for Check {
 
     ghost stands = { CheckStands };
 
-    ghost lacks = { λ _. ⊥ };
-
     fn opening(&self) -> &[u8] {
         &[]
     }
 
-    fn take<O: Sink>(
-        &mut self,
-        item: &Lent<'_, StreamsItem>,
-        out: &mut O,
-    ) -> Result<(), JobStop<StreamRefusal>> {
+    fn take<O: Sink>(&mut self, item: &Lent<'_, StreamsItem>, out: &mut O) -> StreamAnswer {
         match item.item().found {
             StreamsFound::Packets => write_line(self.count, "ok", out)?,
             StreamsFound::Lost => write_line(self.count, "lost", out)?,
@@ -104,22 +98,8 @@ impl RecordJob<StreamsItem, Cut> for Check {
         Ok(())
     }
 
-    fn finish<O: Sink>(
-        &mut self,
-        end: &InputEnd<Cut>,
-        _: &mut O,
-    ) -> Result<(), JobStop<StreamRefusal>> {
-        match end {
-            InputEnd::Closed => match self.first {
-                Some(first) => Err(JobStop::Refused(first)),
-                None => Ok(()),
-            },
-            InputEnd::Cut(cut) => {
-                let cut = StreamWhy::cut(self.count, cut);
-                Err(JobStop::Refused(self.first.unwrap_or(cut)))
-            }
-            InputEnd::Past => Ok(()),
-        }
+    fn finish<O: Sink>(&mut self, end: &InputEnd<Cut>, _: &mut O) -> StreamAnswer {
+        end_by_first(self.first, self.count, end)
     }
 }
 

@@ -5,9 +5,9 @@ ghost use Rattle.stream_jobs.specs.StreamsIn.{streams_in};
 ghost use Rattle.stream_jobs.specs.Extract.{extract_makes};
 
 use crate::of_streams::MakeStreams;
-use crate::refusal::StreamRefusal;
+use crate::refusal::StreamAnswer;
 use crate::stream_packets::StreamPackets;
-use job_loop::{JobStop, Lent};
+use job_loop::Lent;
 use opus_io::{Sink, SinkStop};
 use opus_packet::Packet;
 use opus_words::Form;
@@ -24,12 +24,7 @@ pub(crate) struct Extract {
 impl MakeStreams for Extract {
     ghost makes = { λ e. extract_makes e.streams e.stream };
 
-    fn packets<O: Sink>(
-        &self,
-        _: u64,
-        item: &Lent<'_, StreamsItem>,
-        out: &mut O,
-    ) -> Result<(), JobStop<StreamRefusal>> {
+    fn packets<O: Sink>(&self, _: u64, item: &Lent<'_, StreamsItem>, out: &mut O) -> StreamAnswer {
         let mut packets = StreamPackets::new(self.streams, item.bytes());
         if let Some(packet) = packets.nth(self.stream) {
             write_packet(Form::Demo, 0, &packet, out)?;

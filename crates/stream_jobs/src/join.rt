@@ -13,8 +13,8 @@ ghost use Rattle.stream_jobs.specs.Join.{Part, JoinKept, join, part_of, held_in,
 ghost use Rattle.stream_jobs.specs.JoinEnds.{JoinEnds};
 ghost use Rattle.stream_jobs.specs.JoinParts.{form_at, samples_in};
 
-use crate::refusal::{StreamRefusal, StreamWhy};
-use job_ends::{CutReason, run_made};
+use crate::refusal::{StreamAnswer, StreamRefusal, StreamWhy};
+use job_ends::{CutReason, run_over};
 use job_loop::{InputEnd, JobStop, Lent, RecordJob, write_both};
 use opus_feed::Padding;
 use opus_io::{NoMemory, Sink, SinkStop, Source};
@@ -49,7 +49,7 @@ pub struct Join {
 }
 
 impl Join {
-    ghost use Rattle.stream_jobs.specs.JoinStands.{join_job, JoinStands, GroupStands, Takes};
+    ghost use Rattle.stream_jobs.specs.JoinStands.{join_job, JoinStands, GroupStands, Takes, group_room};
 
     /// The job with groups of so many records, before its first record. It takes all memory that it needs: 61,297 bytes for
     /// each stream.
@@ -57,6 +57,7 @@ impl Join {
         requires { 1 ≤ streams }
         ensures job { IfOk result (λ j. join_job j ≡ join streams) }
         ensures stands { IfOk result (λ j. JoinStands j (join streams).start) }
+        ensures memory { IfOk result (λ j. group_room j ≡ 61297 * streams) }
     {
         Ok(Join {
             streams,
@@ -181,13 +182,14 @@ fn push_form(packet: &Option<Packet<'_>>, last: bool, bytes: &mut Vec<u8>)
         return;
     };
     // Known of every packet: no canonical form is longer than there is room for.
-    if last {
+    let written = if last {
         let _ = canon_size(packet);
-        write_canon(packet, bytes).unwrap();
+        write_canon(packet, bytes)
     } else {
         let _ = canon_self_size(packet);
-        write_canon_self(packet, bytes).unwrap();
-    }
+        write_canon_self(packet, bytes)
+    };
+    written.unwrap();
 }
 
 impl RecordJob<Item, Cut> for Join {
@@ -201,17 +203,11 @@ impl RecordJob<Item, Cut> for Join {
 
     ghost stands = { JoinStands };
 
-    ghost lacks = { λ _. ⊥ };
-
     fn opening(&self) -> &[u8] {
         &[]
     }
 
-    fn take<O: Sink>(
-        &mut self,
-        item: &Lent<'_, Item>,
-        out: &mut O,
-    ) -> Result<(), JobStop<StreamRefusal>> {
+    fn take<O: Sink>(&mut self, item: &Lent<'_, Item>, out: &mut O) -> StreamAnswer {
         let record = item.item();
         let packet = match packet_in(record.found, item.bytes()) {
             Ok(packet) => packet,
@@ -230,11 +226,7 @@ impl RecordJob<Item, Cut> for Join {
         Ok(())
     }
 
-    fn finish<O: Sink>(
-        &mut self,
-        end: &InputEnd<Cut>,
-        _: &mut O,
-    ) -> Result<(), JobStop<StreamRefusal>> {
+    fn finish<O: Sink>(&mut self, end: &InputEnd<Cut>, _: &mut O) -> StreamAnswer {
         match end {
             InputEnd::Closed if self.taken > 0 => {
                 Err(JobStop::Refused(self.short_at(self.place)))
@@ -267,15 +259,13 @@ pub fn join_job<S: Source, O: Sink>(
         (seen_as (S.left source.new) (S.faults source.new) (O.contents out.new) (O.faults out.new) (O.refusals out.new))
         (source.new ≡ source.old) result }
 {
-    match DemoForm::new(alloc, Padding::Drop) {
-        Ok(records) => run_made(
-            alloc,
-            limit,
-            records,
-            Join::new(alloc, streams),
-            source,
-            out,
-        ),
-        Err(NoMemory) => Ending::NoMemory,
-    }
+    let records = DemoForm::new(alloc, Padding::Drop);
+    run_over(
+        alloc,
+        limit,
+        records,
+        Join::new(alloc, streams),
+        source,
+        out,
+    )
 }

@@ -4,7 +4,7 @@ ghost use Rattle.stream_jobs.specs.Norm.{norm_makes, long_from, long_in};
 
 use crate::bad::long_why;
 use crate::of_streams::MakeStreams;
-use crate::refusal::StreamRefusal;
+use crate::refusal::{StreamAnswer, StreamRefusal};
 use job_loop::{JobStop, Lent};
 use opus_feed::Padding;
 use opus_io::{Sink, SinkStop};
@@ -55,7 +55,7 @@ impl MakeStreams for Norm {
         number: u64,
         item: &Lent<'_, StreamsItem>,
         out: &mut O,
-    ) -> Result<(), JobStop<StreamRefusal>> {
+    ) -> StreamAnswer {
         let record = item.item();
         match self.first_long(record.streams.as_slice()) {
             Some(stream) => {

@@ -11,7 +11,7 @@ ghost use Rattle.stream_jobs.specs.Each.{Makes, made_of, each};
 ghost use Rattle.stream_jobs.specs.StreamsJob.{streams_job};
 
 use crate::bad::{broken, unequal};
-use crate::refusal::{StreamRefusal, StreamWhy};
+use crate::refusal::{StreamAnswer, StreamWhy};
 use job_ends::{Each, Make};
 use job_loop::{JobStop, Lent};
 use opus_io::{Sink, SinkStop};
@@ -28,7 +28,7 @@ pub(crate) trait MakeStreams {
         number: u64,
         item: &Lent<'_, StreamsItem>,
         out: &mut O,
-    ) -> Result<(), JobStop<StreamRefusal>>
+    ) -> StreamAnswer
         requires fits { StreamsFit (length item.now.item.streams.items) (length item.now.bytes) }
         ensures ok { OnOk result (Goes (made_step number number ((makes self.now).packets number item.now))
             (λ _. Unit {0}) (O.contents out.old) (O.contents out.new)) }
@@ -75,7 +75,7 @@ impl<M: MakeStreams> Make<StreamsItem, Cut> for OfStreams<M> {
         number: u64,
         item: &Lent<'_, StreamsItem>,
         out: &mut O,
-    ) -> Result<(), JobStop<StreamRefusal>> {
+    ) -> StreamAnswer {
         let record = item.item();
         match record.found {
             StreamsFound::Packets => self.make.packets(number, item, out),

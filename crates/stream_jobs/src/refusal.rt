@@ -4,7 +4,7 @@ ghost use Rattle.arrayvec.specs.ArrayString.{array_string_len};
 ghost use Rattle.stream_jobs.specs.Refusal.{why_text, stream_text};
 
 use arrayvec::ArrayString;
-use job_ends::{CutReason, Reason, Refusal, text_of};
+use job_ends::{Answer, CutReason, Reason, Refusal, text_of};
 use opus_packet::Fault;
 use pack_jobs::{decimal_text, fault_text};
 use pack_records::Cut;
@@ -32,6 +32,9 @@ pub enum StreamWhy {
 
 /// A refused input of packets of several streams.
 pub type StreamRefusal = Refusal<StreamWhy>;
+
+/// What a job over packets of several streams answers.
+pub(crate) type StreamAnswer = Answer<StreamWhy>;
 
 impl Reason for StreamWhy {
     ghost words = { why_text };

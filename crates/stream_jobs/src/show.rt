@@ -8,10 +8,10 @@ ghost use Rattle.stream_jobs.specs.StreamsIn.{streams_in};
 ghost use Rattle.stream_jobs.specs.Show.{show_makes, stream_lines};
 
 use crate::of_streams::MakeStreams;
-use crate::refusal::StreamRefusal;
+use crate::refusal::StreamAnswer;
 use crate::stream_packets::StreamPackets;
 use arrayvec::ArrayString;
-use job_loop::{JobStop, Lent};
+use job_loop::Lent;
 use opus_io::{Sink, SinkStop, write_all};
 use pack_jobs::{decimal_text, write_packet_lines};
 use stream_records::{Spelling, StreamsItem};
@@ -30,7 +30,7 @@ impl MakeStreams for Show {
         number: u64,
         item: &Lent<'_, StreamsItem>,
         out: &mut O,
-    ) -> Result<(), JobStop<StreamRefusal>> {
+    ) -> StreamAnswer {
         let packets = StreamPackets::new(self.streams, item.bytes());
         write_lines(number, item.item().streams.as_slice(), packets, out)?;
         Ok(())

@@ -3,6 +3,7 @@ ghost use Rattle.stream_jobs.specs.StreamEnds.{IsStreamJob, IsStreamKind, IsStre
 
 use crate::stream_job;
 use arrayvec::ArrayString;
+use job_ends::Task;
 use opus_feed::Padding;
 use opus_io::{MemorySink, MemorySource};
 use opus_words::{Ending, Form, Job, JobFault, JobKind};
@@ -289,7 +290,12 @@ fn run(
     let mut source = MemorySource::new(alloc, input, step.max(1), &[])?;
     let mut sink = MemorySink::new(alloc, step.max(1), &[])?;
     let job = self::job(work, streams);
-    let end = stream_job(alloc, &job, 1 << 40, &mut source, &mut sink);
+    let task = Task {
+        alloc,
+        job: &job,
+        limit: 1 << 40,
+    };
+    let end = stream_job(task, &mut source, &mut sink);
     Ok((end, sink))
 }
 
