@@ -1,5 +1,5 @@
 -- What is sent of a store is received again.
-use Rattle.std.proofs.Common.{◌≡◌, inl, inr, ℕ, ◌+◌, ◌-◌, ◌≤◌, ◌==◌, ◌&&◌, true, if◌then◌else◌, List, [], ◌∷◌, ◌++◌, length, take, take_all, replicate, map, is_some, Option, None, Some, refl, sym, ap, ◌∙◌, append-nil, append_assoc, length-append, le-ltb, arith}
+use Rattle.std.proofs.Common.{◌≡◌, inl, inr, ℕ, ◌+◌, ◌≤◌, ◌==◌, ◌&&◌, true, if◌then◌else◌, List, [], ◌∷◌, ◌++◌, length, take, take_all, replicate, map, is_some, Option, None, Some, refl, sym, ap, ◌∙◌, append-nil, append_assoc, length-append, le-ltb, arith}
 use Rattle.std.specs.List.{flat_map}
 use Rattle.std.proofs.lemmas.Bool.{eq-eqb, ne_eqb}
 use Rattle.job_loop.specs.Shown.{Shown}
@@ -27,8 +27,9 @@ use Rattle.rtp_ends.specs.Numbers.{Heard}
 use Rattle.rtp_ends.specs.Report.{arrival_report}
 use Rattle.rtp_ends.specs.Sent.{fields_behind, packet_bytes}
 use Rattle.net_jobs.specs.declared.stream.Stream.{Stream}
+use Rattle.net_jobs.specs.declared.stream.Passed.TheVariants as sorts
 use Rattle.net_jobs.specs.declared.events.Telling.TheVariants.{Store}
-use Rattle.net_jobs.specs.Arrive.{bad, other, arrives, is_same, is_chosen, is_packet, packet_sort, rtp_sort, record_sort}
+use Rattle.net_jobs.specs.Arrive.{passes, arrives, is_same, is_chosen, is_packet, packet_sort, rtp_sort, record_sort}
 use Rattle.net_jobs.specs.Tell.{events_text}
 use Rattle.net_jobs.specs.Capture.{captured_packet, captured_behind, captured_records, capture_of}
 use Rattle.net_jobs.specs.Given.{AreSent}
@@ -85,8 +86,8 @@ sort_again first before v chosen are is own =
     let rtp = IsRtp-plain fields (canonical v) fit in
     ap (rtp_sort any_stream chosen bytes) (spelled-passes (plain_packet fields (canonical v)) bytes rtp)
     ∙ ap (packet_sort any_stream chosen) (spelled-read (plain_packet fields (canonical v)) bytes rtp)
-    ∙ ap (λ b. if b then (if is_packet (canonical v) then arrives s h else bad) else other) (own_chosen chosen s own)
-    ∙ ap (λ b. if b then arrives s h else bad) (canonical_packet v is)
+    ∙ ap (λ b. if b then (if is_packet (canonical v) then arrives s h else passes sorts.Bad) else passes sorts.Other) (own_chosen chosen s own)
+    ∙ ap (λ b. if b then arrives s h else passes sorts.Bad) (canonical_packet v is)
 
 kind_again : (size : ℕ) → 1 ≤ size → kind_of size size ≡ kinds.Rtp
 kind_again size some =

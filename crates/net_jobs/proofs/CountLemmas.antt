@@ -15,7 +15,9 @@ use Rattle.rtp_ends.proofs.AscendLemmas.{ordered-ascends, put-held, length-put}
 use Rattle.rtp_ends.proofs.ReceiverLemmas.{order-more}
 use Rattle.net_jobs.specs.declared.stream.Asked.{Asked}
 use Rattle.net_jobs.specs.declared.counts.Counts.{Counts}
-use Rattle.net_jobs.specs.Arrive.{RecordSort, rtcp, cut, bad, other, arrives, record_sort}
+use Rattle.net_jobs.specs.declared.stream.Passed.{Passed}
+use Rattle.net_jobs.specs.declared.stream.Passed.TheVariants as sorts
+use Rattle.net_jobs.specs.Arrive.{RecordSort, passes, arrives, record_sort}
 use Rattle.net_jobs.specs.Receive.{Reception, begun, IsSum, counted_arrival, after}
 use Rattle.net_jobs.specs.Received.{AreRecords, received_one, received_after, received, packet_in, packets_in}
 use Rattle.net_jobs.proofs.ReportLemmas.{one-records}
@@ -84,11 +86,15 @@ arrival_counted k x c false free is are =
       omega (arith, packets, repeats, size, are.arrivals),
     )
 
+-- one record more that is passed over
+passed_counted : (k : Reception) (p : Passed) → AreCounted k → AreCounted (after k (passes p))
+passed_counted k sorts.Rtcp are = record { sum = omega (arith, are.sum); packets = are.packets; arrivals = are.arrivals }
+passed_counted k sorts.Cut are = record { sum = omega (arith, are.sum); packets = are.packets; arrivals = are.arrivals }
+passed_counted k sorts.Bad are = record { sum = omega (arith, are.sum); packets = are.packets; arrivals = are.arrivals }
+passed_counted k sorts.Other are = record { sum = omega (arith, are.sum); packets = are.packets; arrivals = are.arrivals }
+
 after_counted : (k : Reception) (sort : RecordSort) → AreCounted k → AreCounted (after k sort)
-after_counted k rtcp are = record { sum = omega (arith, are.sum); packets = are.packets; arrivals = are.arrivals }
-after_counted k cut are = record { sum = omega (arith, are.sum); packets = are.packets; arrivals = are.arrivals }
-after_counted k bad are = record { sum = omega (arith, are.sum); packets = are.packets; arrivals = are.arrivals }
-after_counted k other are = record { sum = omega (arith, are.sum); packets = are.packets; arrivals = are.arrivals }
+after_counted k (passes p) are = passed_counted k p are
 after_counted k (arrives s x) are =
     let counted = arrival_counted k x (after k (arrives s x)).counts (has_place (next_place k.heard x.seq) (placed k.heard)) refl
     refl are in

@@ -31,10 +31,12 @@ use Rattle.rtp_ends.proofs.FrontLemmas.{split, settled-are, certain-stays}
 use Rattle.net_jobs.specs.declared.stream.Asked.{Asked}
 use Rattle.net_jobs.specs.declared.counts.Counts.{Counts}
 use Rattle.net_jobs.specs.declared.events.Telling.{Telling}
+use Rattle.net_jobs.specs.declared.stream.Passed.{Passed}
+use Rattle.net_jobs.specs.declared.stream.Passed.TheVariants as sorts
 use Rattle.net_jobs.specs.declared.capture_refusal.CaptureRefusal.{CaptureRefusal}
-use Rattle.net_jobs.specs.Arrive.{RecordSort, rtcp, cut, bad, other, arrives, record_sort}
+use Rattle.net_jobs.specs.Arrive.{RecordSort, passes, arrives, record_sort}
 use Rattle.net_jobs.specs.Tell.{event_text, events_text, missing_in, counts_text}
-use Rattle.net_jobs.specs.Receive.{Reception, begun, counted_arrival, after, behind, told_now, told_last, receive, receive_sort, receive_found, rest_text, refusal_of, most_records}
+use Rattle.net_jobs.specs.Receive.{Reception, begun, counted_passed, counted_arrival, after, behind, told_now, told_last, receive, receive_sort, receive_found, rest_text, capture_refusal, most_records}
 use Rattle.net_jobs.specs.Received.{IsRecord, AreRecords, received_one, received_after, received, report_text}
 use Rattle.net_jobs.proofs.MissingLemmas.{place_above}
 
@@ -91,10 +93,7 @@ text-same telling heard =
 text-now : (telling : Telling) (k : Reception) (sort : RecordSort)
     → events_text telling (certain_events k.heard) ++ events_text telling (told_now k (after k sort))
     ≡ events_text telling (certain_events (after k sort).heard)
-text-now telling k rtcp = text-same telling k.heard
-text-now telling k cut = text-same telling k.heard
-text-now telling k bad = text-same telling k.heard
-text-now telling k other = text-same telling k.heard
+text-now telling k (passes p) = text-same telling k.heard
 text-now telling k (arrives s x) =
     let more = certain-more k.heard x in
     text-behind telling (certain_events k.heard) (certain_events (k.heard ++ x ∷ [])) more.0 more.1
@@ -116,11 +115,14 @@ counted-records : (c : Counts) (answer : Arrival) → (counted_arrival c answer)
 counted-records c (New n) = refl
 counted-records c (Repeat n) = refl
 
+passed-records : (c : Counts) (p : Passed) → (counted_passed c p).records ≡ c.records + 1
+passed-records c sorts.Rtcp = refl
+passed-records c sorts.Cut = refl
+passed-records c sorts.Bad = refl
+passed-records c sorts.Other = refl
+
 pub after-records : (k : Reception) (sort : RecordSort) → (after k sort).counts.records ≡ k.counts.records + 1
-after-records k rtcp = refl
-after-records k cut = refl
-after-records k bad = refl
-after-records k other = refl
+after-records k (passes p) = passed-records k.counts p
 after-records k (arrives s x) = counted-records k.counts (answer_to k.heard x.seq)
 
 -- what is written behind records that began with this
@@ -167,21 +169,21 @@ closed_whole telling asked rs are few =
 
 pub cut_whole : (telling : Telling) (asked : Asked) (rs : List (Shown Item)) (fault : StoreFault) → AreRecords rs
     → length rs ≤ most_records → outcome (receive telling asked) rs (ends.Cut fault)
-    ≡ broke (report_text telling (received asked rs)) (refusal_of (received asked rs) fault)
+    ≡ broke (report_text telling (received asked rs)) (capture_refusal (received asked rs) fault)
 cut_whole telling asked rs fault are few =
     ap (closes (receive telling asked) (ends.Cut fault)) (runs_whole telling asked rs are few)
-    ∙ ap (λ text. broke text (refusal_of (received asked rs) fault)) (text-last telling (received asked rs))
+    ∙ ap (λ text. broke text (capture_refusal (received asked rs) fault)) (text-last telling (received asked rs))
 
 step_bad : (telling : Telling) (asked : Asked) (k : Reception) (r : Shown Item) (fault : StoreFault) → r.item.found ≡ Bad fault
-    → onward (receive telling asked) (so_far telling k) r ≡ broke (report_text telling k) (refusal_of k fault)
+    → onward (receive telling asked) (so_far telling k) r ≡ broke (report_text telling k) (capture_refusal k fault)
 step_bad telling asked k r fault is =
     ap (λ f. adds (events_text telling (certain_events k.heard)) (receive_found telling asked k f r.bytes)) is
-    ∙ ap (λ text. broke text (refusal_of k fault)) (text-last telling k)
+    ∙ ap (λ text. broke text (capture_refusal k fault)) (text-last telling k)
 
 pub refused_whole : (telling : Telling) (asked : Asked) (rs : List (Shown Item)) (r : Shown Item) (fault : StoreFault)
     (end : InputEnd StoreFault) → AreRecords rs → length rs ≤ most_records → r.item.found ≡ Bad fault
     → outcome (receive telling asked) (rs ++ r ∷ []) end
-    ≡ broke (report_text telling (received asked rs)) (refusal_of (received asked rs) fault)
+    ≡ broke (report_text telling (received asked rs)) (capture_refusal (received asked rs) fault)
 refused_whole telling asked rs r fault end are few is =
     let m = receive telling asked in
     ap (closes m end) (runs-append m (opened m) rs (r ∷ [])

@@ -12,13 +12,12 @@ use Rattle.rtp_packet.specs.declared.fault.RtpFault.{RtpFault}
 use Rattle.rtp_ends.specs.Numbers.{Heard}
 use Rattle.net_jobs.specs.declared.stream.Stream.{Stream}
 use Rattle.net_jobs.specs.declared.stream.Asked.{Asked}
+use Rattle.net_jobs.specs.declared.stream.Passed.{Passed}
+use Rattle.net_jobs.specs.declared.stream.Passed.TheVariants as sorts
 
--- a packet of RTCP; a packet that was cut; no packet; one of another stream; or one more packet of the stream
+-- a record that is passed over: of RTCP, cut, no packet, or of another stream; or one more packet of the stream
 pub data RecordSort : Type 0 where
-  rtcp : RecordSort
-  cut : RecordSort
-  bad : RecordSort
-  other : RecordSort
+  passes : Passed → RecordSort
   arrives : Stream → Heard → RecordSort
 
 abbrev pub stream_of : RtpValue → Stream
@@ -55,16 +54,16 @@ arrival_of p = arrives (stream_of p) (heard_of p)
 abbrev pub packet_sort : Asked → Option Stream → RtpValue → RecordSort
 packet_sort asked chosen p =
     if is_wanted asked chosen (stream_of p)
-    then (if is_packet p.payload then arrival_of p else bad)
-    else other
+    then (if is_packet p.payload then arrival_of p else passes sorts.Bad)
+    else passes sorts.Other
 
 -- by the first check of an RTP packet that fails, if any does (RFC 3550, 5.1)
 abbrev pub rtp_sort : Asked → Option Stream → List ℕ → Option RtpFault → RecordSort
-rtp_sort asked chosen bytes (Some fault) = bad
+rtp_sort asked chosen bytes (Some fault) = passes sorts.Bad
 rtp_sort asked chosen bytes None = packet_sort asked chosen (rtp_in bytes)
 
 -- what a record is, whose packet has these bytes, where this stream was chosen before
 unfoldable pub record_sort : Asked → Option Stream → DumpKind → List ℕ → RecordSort
-record_sort asked chosen kinds.Rtcp bytes = rtcp
-record_sort asked chosen kinds.Cut bytes = cut
+record_sort asked chosen kinds.Rtcp bytes = passes sorts.Rtcp
+record_sort asked chosen kinds.Cut bytes = passes sorts.Cut
 record_sort asked chosen kinds.Rtp bytes = rtp_sort asked chosen bytes (rtp_fault bytes)

@@ -17,11 +17,13 @@ use Rattle.rtp_ends.specs.Report.{arrival_report, certain_events}
 use Rattle.rtp_ends.specs.Receives.{answer_to}
 use Rattle.net_jobs.specs.declared.stream.Stream.{Stream}
 use Rattle.net_jobs.specs.declared.stream.Asked.{Asked}
+use Rattle.net_jobs.specs.declared.stream.Passed.{Passed}
+use Rattle.net_jobs.specs.declared.stream.Passed.TheVariants as sorts
 use Rattle.net_jobs.specs.declared.counts.Counts.{Counts}
 use Rattle.net_jobs.specs.declared.events.Telling.{Telling}
 use Rattle.net_jobs.specs.declared.events.Telling.TheVariants.{Store, Lines}
 use Rattle.net_jobs.specs.declared.capture_refusal.CaptureRefusal.{CaptureRefusal}
-use Rattle.net_jobs.specs.Arrive.{RecordSort, rtcp, cut, bad, other, arrives, record_sort}
+use Rattle.net_jobs.specs.Arrive.{RecordSort, passes, arrives, record_sort}
 use Rattle.net_jobs.specs.Tell.{events_text, missing_in, counts_text}
 
 -- ---- what is kept
@@ -43,31 +45,28 @@ abbrev pub IsSum : Counts → Type 0
 IsSum c = c.rtcp + c.cut + c.bad + c.other + c.repeats + c.packets ≡ c.records
 
 -- one record more, of this sort; an arrival is a repeat where its number arrived before
+abbrev pub counted_passed : Counts → Passed → Counts
+counted_passed c sorts.Rtcp = record c { records = c.records + 1; rtcp = c.rtcp + 1 }
+counted_passed c sorts.Cut = record c { records = c.records + 1; cut = c.cut + 1 }
+counted_passed c sorts.Bad = record c { records = c.records + 1; bad = c.bad + 1 }
+counted_passed c sorts.Other = record c { records = c.records + 1; other = c.other + 1 }
+
 abbrev pub counted_arrival : Counts → Arrival → Counts
 counted_arrival c (New number) = record c { records = c.records + 1; packets = c.packets + 1 }
 counted_arrival c (Repeat number) = record c { records = c.records + 1; repeats = c.repeats + 1 }
 
 abbrev pub counted : Counts → List Heard → RecordSort → Counts
-counted c heard rtcp = record c { records = c.records + 1; rtcp = c.rtcp + 1 }
-counted c heard cut = record c { records = c.records + 1; cut = c.cut + 1 }
-counted c heard bad = record c { records = c.records + 1; bad = c.bad + 1 }
-counted c heard other = record c { records = c.records + 1; other = c.other + 1 }
+counted c heard (passes p) = counted_passed c p
 counted c heard (arrives s x) = counted_arrival c (answer_to heard x.seq)
 
 -- the first arrival chooses its stream
 abbrev pub chosen_by : Option Stream → RecordSort → Option Stream
 chosen_by (Some chosen) sort = Some chosen
-chosen_by None rtcp = None
-chosen_by None cut = None
-chosen_by None bad = None
-chosen_by None other = None
+chosen_by None (passes p) = None
 chosen_by None (arrives s x) = Some s
 
 abbrev pub heard_by : List Heard → RecordSort → List Heard
-heard_by heard rtcp = heard
-heard_by heard cut = heard
-heard_by heard bad = heard
-heard_by heard other = heard
+heard_by heard (passes p) = heard
 heard_by heard (arrives s x) = heard ++ x ∷ []
 
 abbrev pub after : Reception → RecordSort → Reception
@@ -95,8 +94,8 @@ abbrev pub rest_text : Telling → Reception → List ℕ
 rest_text telling k =
     events_text telling (told_last k) ++ counts_text telling k.counts (missing_in (arrival_report k.heard))
 
-abbrev pub refusal_of : Reception → StoreFault → CaptureRefusal
-refusal_of k fault = record { index = k.counts.records; fault = fault }
+abbrev pub capture_refusal : Reception → StoreFault → CaptureRefusal
+capture_refusal k fault = record { index = k.counts.records; fault = fault }
 
 -- ---- the jobs
 
@@ -112,11 +111,11 @@ receive_found telling asked k (Record told) bytes =
     if nat_lt k.counts.records most_records
     then receive_sort telling k (record_sort asked k.chosen told.kind bytes)
     else goes [] k
-receive_found telling asked k (Bad fault) bytes = stops (rest_text telling k) (refusal_of k fault)
+receive_found telling asked k (Bad fault) bytes = stops (rest_text telling k) (capture_refusal k fault)
 
 abbrev pub receive_end : Telling → Reception → InputEnd StoreFault → Step (Unit {0}) CaptureRefusal
 receive_end telling k ends.Closed = goes (rest_text telling k) tt
-receive_end telling k (ends.Cut fault) = stops (rest_text telling k) (refusal_of k fault)
+receive_end telling k (ends.Cut fault) = stops (rest_text telling k) (capture_refusal k fault)
 receive_end telling k ends.Past = goes [] tt
 
 -- Where the capture goes wrong or is cut, the report of what arrived before is written whole.

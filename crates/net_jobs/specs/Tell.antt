@@ -3,6 +3,7 @@ use Rattle.std.specs.Prelude.{ℕ, ℤ, zero, suc, List, [], ◌∷◌, ◌++◌
 use Rattle.std.specs.List.{flat_map, sum_by}
 use Rattle.std.specs.Fmt.{signed_decimal}
 use Rattle.rec_store.specs.DemoStore.{demo_record}
+use Rattle.pack_jobs.specs.Named.{named}
 use Rattle.rtp_ends.specs.declared.event.Event.{Event}
 use Rattle.rtp_ends.specs.declared.event.Event.TheVariants.{Packet, Gap}
 use Rattle.net_jobs.specs.declared.counts.Counts.{Counts}
@@ -13,10 +14,6 @@ use Rattle.net_jobs.specs.declared.events.Telling.TheVariants.{Store, Lines}
 abbrev pub lost_records : ℕ → List ℕ
 lost_records zero = []
 lost_records (suc count) = demo_record 0 [] ++ lost_records count
-
--- ` NAME N`
-abbrev pub named : List ℕ → ℕ → List ℕ
-named name n = 32 ∷ (name ++ 32 ∷ decimal n)
 
 -- a packet as it arrived with range 0, and a gap as that many lost records
 abbrev pub store_text : Event → List ℕ

@@ -1,9 +1,9 @@
 //! Why a capture is refused.
-ghost use Rattle.std.specs.Prelude.{◌≡◌, ◌≤◌, length};
+ghost use Rattle.std.specs.Prelude.{◌≡◌};
 ghost use Rattle.net_jobs.specs.CaptureRefusal.{fault_place, fault_text, TellsCapture};
 
 use arrayvec::ArrayString;
-use job_ends::Told;
+use job_ends::{Told, text_of};
 use opus_words::JobFault;
 use rec_store::StoreFault;
 
@@ -48,13 +48,4 @@ fn fault_text(fault: StoreFault) -> ArrayString<64>
         StoreFault::DumpLine(_) => text_of("dump line"),
         StoreFault::DumpLength(_) => text_of("dump length"),
     }
-}
-
-fn text_of(words: &str) -> ArrayString<64>
-    requires { length words.now ≤ 64 }
-    ensures { result.bytes ≡ words.now }
-{
-    let mut text = ArrayString::new();
-    text.push_str(words);
-    text
 }

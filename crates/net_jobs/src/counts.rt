@@ -1,16 +1,16 @@
 //! How many records of a capture were taken, and the line that tells it.
-ghost use Rattle.std.specs.Prelude.{◌≡◌, ◌+◌, ◌≤◌, ◌<◌, ◌++◌, length};
+ghost use Rattle.std.specs.Prelude.{◌≡◌, ◌+◌, ◌<◌};
 ghost use Rattle.net_jobs.specs.Receive.{most_records};
-ghost use Rattle.arrayvec.specs.ArrayString.{array_string_len};
-ghost use Rattle.net_jobs.specs.Receive.{no_counts, IsSum, counted_arrival};
-ghost use Rattle.net_jobs.specs.Tell.{named, counts_line};
+ghost use Rattle.net_jobs.specs.Receive.{IsSum, counted_passed, counted_arrival};
+ghost use Rattle.net_jobs.specs.Tell.{counts_line};
 
+use crate::stream::Passed;
 use arrayvec::ArrayString;
-use pack_jobs::decimal_text;
+use pack_jobs::{decimal_text, push_named};
 use rtp_ends::Arrival;
 
 /// Records of a capture: all of them, and those of each sort.
-#[derive(Clone, Copy, Debug, PartialEq, Eq)]
+#[derive(Clone, Copy, Debug, Default, PartialEq, Eq)]
 pub(crate) struct Counts {
     /// All that were taken.
     pub(crate) records: u64,
@@ -29,59 +29,19 @@ pub(crate) struct Counts {
 }
 
 impl Counts {
-    /// No records.
-    pub(crate) fn new() -> Counts
-        ensures { result ≡ no_counts }
+    /// Counts a record that is passed over.
+    pub(crate) fn add_passed(&mut self, passed: Passed)
+        requires sum { IsSum self.old }
+        requires most { self.old.records < most_records }
+        ensures { self.new ≡ counted_passed self.old passed }
     {
-        Counts {
-            records: 0,
-            rtcp: 0,
-            cut: 0,
-            bad: 0,
-            other: 0,
-            repeats: 0,
-            packets: 0,
+        self.records += 1;
+        match passed {
+            Passed::Rtcp => self.rtcp += 1,
+            Passed::Cut => self.cut += 1,
+            Passed::Bad => self.bad += 1,
+            Passed::Other => self.other += 1,
         }
-    }
-
-    /// Counts a packet of RTCP.
-    pub(crate) fn add_rtcp(&mut self)
-        requires sum { IsSum self.old }
-        requires most { self.old.records < most_records }
-        ensures { self.new ≡ record self.old { records = self.old.records + 1; rtcp = self.old.rtcp + 1 } }
-    {
-        self.records += 1;
-        self.rtcp += 1;
-    }
-
-    /// Counts a packet that was cut.
-    pub(crate) fn add_cut(&mut self)
-        requires sum { IsSum self.old }
-        requires most { self.old.records < most_records }
-        ensures { self.new ≡ record self.old { records = self.old.records + 1; cut = self.old.cut + 1 } }
-    {
-        self.records += 1;
-        self.cut += 1;
-    }
-
-    /// Counts a record that holds no packet.
-    pub(crate) fn add_bad(&mut self)
-        requires sum { IsSum self.old }
-        requires most { self.old.records < most_records }
-        ensures { self.new ≡ record self.old { records = self.old.records + 1; bad = self.old.bad + 1 } }
-    {
-        self.records += 1;
-        self.bad += 1;
-    }
-
-    /// Counts a packet of another stream.
-    pub(crate) fn add_other(&mut self)
-        requires sum { IsSum self.old }
-        requires most { self.old.records < most_records }
-        ensures { self.new ≡ record self.old { records = self.old.records + 1; other = self.old.other + 1 } }
-    {
-        self.records += 1;
-        self.other += 1;
     }
 
     /// Counts a packet of the stream, by whether its number had arrived before.
@@ -118,15 +78,4 @@ impl Counts {
         line.push_str("\n");
         line
     }
-}
-
-fn push_named(line: &mut ArrayString<224>, name: &str, number: u64)
-    requires { array_string_len line.old + length name.now + 22 ≤ 224 }
-    ensures text { line.new.bytes ≡ line.old.bytes ++ named name.now number }
-    ensures len { array_string_len line.new ≤ array_string_len line.old + length name.now + 22 }
-{
-    line.push_str(" ");
-    line.push_str(name);
-    line.push_str(" ");
-    line.push_str(decimal_text(number).as_str());
 }

@@ -1,19 +1,19 @@
 //! What is written of a receiver's events.
-ghost use Rattle.std.specs.Prelude.{◌≡◌, ◌+◌, ◌≤◌, ◌^◌, ◌<◌, ◌++◌, length, OnOk, OnErr};
+ghost use Rattle.std.specs.Prelude.{◌≡◌, ◌+◌, ◌≤◌, ◌<◌, ◌++◌, length, OnOk, OnErr};
 ghost use Rattle.std.specs.Fmt.{signed_decimal};
 ghost use Rattle.std.specs.Io.KnownBytes.{Appends};
 ghost use Rattle.arrayvec.specs.ArrayString.{array_string_len};
 ghost use Rattle.opus_io.specs.Sink.{SinkCause, Onward};
 ghost use Rattle.job_loop.specs.Telling.{Front};
-ghost use Rattle.rec_store.specs.DemoStore.{demo_head, demo_record};
+ghost use Rattle.rec_store.specs.DemoStore.{demo_head};
 ghost use Rattle.rtp_ends.specs.declared.event.Event.TheVariants.{Packet, Gap};
 ghost use Rattle.job_ends.specs.Refusal.{told};
-ghost use Rattle.net_jobs.specs.Tell.{event_text, events_text, store_text, lost_records, line_text, packet_line, gap_line, named, missing_of, missing_in};
+ghost use Rattle.net_jobs.specs.Tell.{event_text, events_text, store_text, lost_records, line_text, packet_line, gap_line, missing_of, missing_in};
 
 use arrayvec::ArrayString;
 use job_loop::write_both;
 use opus_io::{Sink, SinkStop, write_all};
-use pack_jobs::decimal_text;
+use pack_jobs::{decimal_text, push_named};
 use rec_store::demo_head;
 use rtp_ends::Event;
 
@@ -162,17 +162,6 @@ fn begun(word: &str, number: i64) -> ArrayString<88>
     }
     line.push_str(decimal_text(number.unsigned_abs()).as_str());
     line
-}
-
-fn push_named(line: &mut ArrayString<88>, name: &str, number: u64)
-    requires { array_string_len line.old + length name.now + 22 ≤ 88 }
-    ensures text { line.new.bytes ≡ line.old.bytes ++ named name.now number }
-    ensures len { array_string_len line.new ≤ array_string_len line.old + length name.now + 22 }
-{
-    line.push_str(" ");
-    line.push_str(name);
-    line.push_str(" ");
-    line.push_str(decimal_text(number).as_str());
 }
 
 /// Adds the numbers that events miss, up to 2^64 - 1.

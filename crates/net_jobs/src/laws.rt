@@ -1,12 +1,11 @@
 //! Laws on the jobs over RTP: each is the contract of a function that does nothing.
-ghost use Rattle.std.specs.Prelude.{◌≡◌, ◌+◌, ◌*◌, ◌^◌, ◌<◌, ◌≤◌, ℕ, List, [], ◌∷◌, ◌++◌, map, Option, length, None};
+ghost use Rattle.std.specs.Prelude.{◌≡◌, ◌+◌, ◌*◌, ◌^◌, ◌≤◌, ℕ, List, [], ◌∷◌, ◌++◌, map, Option, length, None};
 ghost use Rattle.std.specs.List.{AllByRecursion};
 ghost use Rattle.job_loop.specs.Shown.{Shown};
 ghost use Rattle.job_loop.specs.Meaning.{going, broke, end_of, runs, opened, outcome};
 ghost use Rattle.job_loop.specs.declared.input_end.InputEnd.{InputEnd};
 ghost use Rattle.job_loop.specs.declared.input_end.InputEnd.TheVariants as ends;
 ghost use Rattle.opus_packet.specs.Value.{PacketValue};
-ghost use Rattle.opus_packet.specs.PacketPrefix.{AreBytes};
 ghost use Rattle.opus_feed.specs.declared.padding.Padding.{Padding};
 ghost use Rattle.opus_feed.specs.declared.padding.Padding.TheVariants.{Drop};
 ghost use Rattle.rec_store.specs.Dump.{IsDumpRecord, packet_of_record};
@@ -30,11 +29,10 @@ ghost use Rattle.rtp_ends.specs.Report.{arrival_report, certain_events};
 ghost use Rattle.net_jobs.specs.declared.stream.Asked.{Asked};
 ghost use Rattle.net_jobs.specs.declared.events.Telling.{Telling};
 ghost use Rattle.net_jobs.specs.Tell.{events_text};
-ghost use Rattle.net_jobs.specs.Receive as refused;
 ghost use Rattle.dump_records.specs.Capture.{DumpSettles, DumpEnds};
 ghost use Rattle.rtp_packet.specs.RtpRead.{AreFields};
 ghost use Rattle.net_jobs.specs.Again.{any_stream, store_again, BeginsAndEnds};
-ghost use Rattle.net_jobs.specs.Receive.{receive, recv, IsSum};
+ghost use Rattle.net_jobs.specs.Receive.{capture_refusal, receive, recv, IsSum};
 ghost use Rattle.net_jobs.specs.Received.{AreRecords, received, report_text, packets_in};
 
 /// What send writes for records is the capture of what the sender was given: of all records, or of those before the first
@@ -83,11 +81,11 @@ pub fn what_arrives_is_told_whole()
         ≡ going (report_text telling (received asked rs)) tt }
     ensures cut { (telling : Telling) (asked : Asked) (rs : List (Shown Recorded)) (fault : StoreFault) → AreRecords rs
         → length rs ≤ most_records → outcome (receive telling asked) rs (ends.Cut fault)
-        ≡ broke (report_text telling (received asked rs)) (refused.refusal_of (received asked rs) fault) }
+        ≡ broke (report_text telling (received asked rs)) (capture_refusal (received asked rs) fault) }
     ensures refused { (telling : Telling) (asked : Asked) (rs : List (Shown Recorded)) (r : Shown Recorded)
         (fault : StoreFault) (end : InputEnd StoreFault) → AreRecords rs → length rs ≤ most_records
         → r.item.found ≡ Bad fault → outcome (receive telling asked) (rs ++ r ∷ []) end
-        ≡ broke (report_text telling (received asked rs)) (refused.refusal_of (received asked rs) fault) }
+        ≡ broke (report_text telling (received asked rs)) (capture_refusal (received asked rs) fault) }
     ensures few { (h : List ℕ) (rs : List (Shown Recorded)) → DumpSettles h rs → 8 * length rs ≤ length h + 8 }
 {}
 

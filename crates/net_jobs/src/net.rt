@@ -1,6 +1,5 @@
 //! The jobs over RTP, by their kinds.
-ghost use Rattle.std.specs.Prelude.{◌≡◌, ◌<◌, ◌≤◌, ◌^◌, [], IfSome};
-ghost use Rattle.opus_io.specs.Reader.{max_input};
+ghost use Rattle.std.specs.Prelude.{◌≡◌, ◌<◌, ◌^◌, [], IfSome};
 ghost use Rattle.opus_feed.specs.declared.padding.Padding.TheVariants.{Drop};
 ghost use Rattle.rtp_ends.specs.Sends.{SenderStands};
 ghost use Rattle.pack_records.specs.Demo.{DemoSettles, DemoEnds};
@@ -15,37 +14,28 @@ use crate::receive::ReceiveJob;
 use crate::send::SendJob;
 use crate::stream::Asked;
 use dump_records::DumpForm;
-use job_ends::{run_made, run_told};
+use job_ends::{Task, run_over, run_told};
 use opus_feed::Padding;
 use opus_io::{NoMemory, Sink, Source};
 use opus_words::{Ending, Job, JobKind};
 use pack_records::DemoForm;
 use rtp_ends::Sender;
-use std::alloc::Global;
 
-/// Does a job over RTP: reads `source` up to `limit` bytes, from 1 to 2^40, and writes to `out`.
+/// Does a job over RTP: reads `source` up to the task's limit, and writes to `out`.
 ///
 /// What the bytes read settle is written before the next read. `send` takes all memory before the first read; `recv` and
 /// `replay` take that of packets and their events as they arrive.
-pub fn net_job<S: Source, O: Sink>(
-    alloc: Global,
-    job: &Job,
-    limit: u64,
-    source: &mut S,
-    out: &mut O,
-) -> Ending
-    requires some { 1 ≤ limit }
-    requires most { limit ≤ max_input }
-    requires job { IsNetJob job.now }
-    ensures { NetEnds job.now limit
+pub fn net_job<S: Source, O: Sink>(task: Task<'_>, source: &mut S, out: &mut O) -> Ending
+    requires { IsNetJob task.job.now }
+    ensures { NetEnds task.entry.job.now task.entry.limit
         (seen_as (S.left source.old) (S.faults source.old) (O.contents out.old) (O.faults out.old) (O.refusals out.old))
         (seen_as (S.left source.new) (S.faults source.new) (O.contents out.new) (O.faults out.new) (O.refusals out.new))
         (source.new ≡ source.old) result }
 {
-    match job.kind {
-        JobKind::Send => run_send(alloc, sender_in(job), limit, source, out),
-        JobKind::Recv => run_receive(alloc, Telling::Store, asked_in(job), limit, source, out),
-        JobKind::Replay => run_receive(alloc, Telling::Lines, asked_in(job), limit, source, out),
+    match task.job.kind {
+        JobKind::Send => run_send(task, source, out),
+        JobKind::Recv => run_receive(task, Telling::Store, source, out),
+        JobKind::Replay => run_receive(task, Telling::Lines, source, out),
         _ => unreachable!(),
     }
 }
@@ -74,51 +64,37 @@ fn asked_in(job: &Job) -> Asked
     }
 }
 
-// Runs the job send with this sender, which was given nothing yet.
-fn run_send<S: Source, O: Sink>(
-    alloc: Global,
-    sender: Sender,
-    limit: u64,
-    source: &mut S,
-    out: &mut O,
-) -> Ending
-    requires some { 1 ≤ limit }
-    requires most { limit ≤ max_input }
-    requires stands { SenderStands sender [] }
-    ensures { MeaningEnds (send sender.first) (DemoSettles Drop) (DemoEnds Drop) limit
+// Runs send.
+fn run_send<S: Source, O: Sink>(task: Task<'_>, source: &mut S, out: &mut O) -> Ending
+    requires { IfSome task.job.now.pt (λ n. n < 2 ^ 7) }
+    ensures { MeaningEnds (send (first_in task.entry.job.now)) (DemoSettles Drop) (DemoEnds Drop) task.entry.limit
         (seen_as (S.left source.old) (S.faults source.old) (O.contents out.old) (O.faults out.old) (O.refusals out.old))
         (seen_as (S.left source.new) (S.faults source.new) (O.contents out.new) (O.faults out.new) (O.refusals out.new))
         (source.new ≡ source.old) result }
 {
-    match DemoForm::new(alloc, Padding::Drop) {
-        Ok(records) => {
-            let job = SendJob::new(alloc, sender);
-            run_made(alloc, limit, records, job, source, out)
-        }
-        Err(NoMemory) => Ending::NoMemory,
-    }
+    let Task { alloc, job, limit } = task;
+    let records = DemoForm::new(alloc, Padding::Drop);
+    let send = SendJob::new(alloc, sender_in(job));
+    run_over(alloc, limit, records, send, source, out)
 }
 
 // Runs recv or replay over a capture.
 fn run_receive<S: Source, O: Sink>(
-    alloc: Global,
+    task: Task<'_>,
     telling: Telling,
-    asked: Asked,
-    limit: u64,
     source: &mut S,
     out: &mut O,
 ) -> Ending
-    requires some { 1 ≤ limit }
-    requires most { limit ≤ max_input }
-    ensures { ReceiveEnds (receive telling asked) limit
+    ensures { ReceiveEnds (receive telling (asked_in task.entry.job.now)) task.entry.limit
         (seen_as (S.left source.old) (S.faults source.old) (O.contents out.old) (O.faults out.old) (O.refusals out.old))
         (seen_as (S.left source.new) (S.faults source.new) (O.contents out.new) (O.faults out.new) (O.refusals out.new))
         result }
 {
+    let Task { alloc, job, limit } = task;
     let Ok(records) = DumpForm::new(alloc) else {
         return Ending::NoMemory;
     };
-    match ReceiveJob::new(alloc, telling, asked) {
+    match ReceiveJob::new(alloc, telling, asked_in(job)) {
         Ok(mut job) => run_told(alloc, limit, records, &mut job, source, out),
         Err(NoMemory) => Ending::NoMemory,
     }

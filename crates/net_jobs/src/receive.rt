@@ -27,6 +27,9 @@ use std::alloc::Global;
 // Most records that are taken.
 const MOST_RECORDS: u64 = 1_099_511_627_776;
 
+// What the job answers to a record or to the end.
+type Answer = Result<(), JobStop<CaptureRefusal>>;
+
 /// Receives one stream of a capture, and tells what arrived.
 #[derive(Drop)]
 pub struct ReceiveJob {
@@ -57,7 +60,7 @@ impl ReceiveJob {
             telling,
             asked,
             chosen: None,
-            counts: Counts::new(),
+            counts: Counts::default(),
             missing: 0,
             receiver: Receiver::new(alloc)?,
             events: Vec::new(alloc),
@@ -74,13 +77,12 @@ impl ReceiveJob {
     {
         self.events.clear();
         match sort_record(self.asked, self.chosen, kind, bytes) {
-            Sort::Rtcp => self.counts.add_rtcp(),
-            Sort::Cut => self.counts.add_cut(),
-            Sort::Bad => self.counts.add_bad(),
-            Sort::Other => self.counts.add_other(),
-            Sort::Arrival(packet) => return self.arrive(packet),
+            Sort::Passed(passed) => {
+                self.counts.add_passed(passed);
+                Ok(())
+            }
+            Sort::Arrival(packet) => self.arrive(packet),
         }
-        Ok(())
     }
 
     // Hands a packet to the receiver. There are no events before.
@@ -134,7 +136,7 @@ impl ReceiveJob {
     }
 
     // Writes all that is left.
-    fn end<O: Sink>(&mut self, out: &mut O) -> Result<(), JobStop<CaptureRefusal>>
+    fn end<O: Sink>(&mut self, out: &mut O) -> Answer
         ensures telling { self.new.telling ≡ self.old.telling }
         ensures asked { self.new.asked ≡ self.old.asked }
         ensures ok { OnOk result ((k : Reception) → ReceiveStands self.old k
@@ -153,12 +155,7 @@ impl ReceiveJob {
     }
 
     // Takes a record, and writes what it makes certain.
-    fn take_record<O: Sink>(
-        &mut self,
-        told: DumpItem,
-        bytes: &[u8],
-        out: &mut O,
-    ) -> Result<(), JobStop<CaptureRefusal>>
+    fn take_record<O: Sink>(&mut self, told: DumpItem, bytes: &[u8], out: &mut O) -> Answer
         ensures telling { self.new.telling ≡ self.old.telling }
         ensures asked { self.new.asked ≡ self.old.asked }
         ensures ok { OnOk result ((k : Reception) → ReceiveStands self.old k
@@ -209,11 +206,7 @@ impl RecordJob<Item, StoreFault> for ReceiveJob {
         &[]
     }
 
-    fn take<O: Sink>(
-        &mut self,
-        item: &Lent<'_, Item>,
-        out: &mut O,
-    ) -> Result<(), JobStop<CaptureRefusal>> {
+    fn take<O: Sink>(&mut self, item: &Lent<'_, Item>, out: &mut O) -> Answer {
         match item.item().found {
             Found::Record(told) => self.take_record(told, item.bytes(), out),
             Found::Bad(fault) => {
@@ -224,11 +217,7 @@ impl RecordJob<Item, StoreFault> for ReceiveJob {
         }
     }
 
-    fn finish<O: Sink>(
-        &mut self,
-        end: &InputEnd<StoreFault>,
-        out: &mut O,
-    ) -> Result<(), JobStop<CaptureRefusal>> {
+    fn finish<O: Sink>(&mut self, end: &InputEnd<StoreFault>, out: &mut O) -> Answer {
         match end {
             InputEnd::Closed => self.end(out),
             InputEnd::Cut(fault) => {

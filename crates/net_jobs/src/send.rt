@@ -11,6 +11,7 @@ ghost use Rattle.net_jobs.specs.Capture.{offset_behind};
 ghost use Rattle.net_jobs.specs.Send.{send, given_of};
 
 use crate::plain::plain_samples;
+use job_ends::Answer;
 use job_loop::{InputEnd, JobStop, Lent, RecordJob};
 use opus_feed::Framing;
 use opus_io::{NoMemory, Sink, write_all};
@@ -162,18 +163,12 @@ impl RecordJob<Item, Cut> for SendJob {
 
     ghost stands = { SendStands };
 
-    ghost lacks = { λ _. ⊥ };
-
     fn opening(&self) -> &[u8] {
         &self.opening
     }
 
     #[inline(always)]
-    fn take<O: Sink>(
-        &mut self,
-        item: &Lent<'_, Item>,
-        out: &mut O,
-    ) -> Result<(), JobStop<Refusal>> {
+    fn take<O: Sink>(&mut self, item: &Lent<'_, Item>, out: &mut O) -> Answer<Why> {
         let record = item.item();
         if let Found::Bad(fault) = record.found {
             return Err(JobStop::Refused(refusal_at(self.sender.sent(), record, fault)));
@@ -186,7 +181,7 @@ impl RecordJob<Item, Cut> for SendJob {
         Ok(())
     }
 
-    fn finish<O: Sink>(&mut self, end: &InputEnd<Cut>, _: &mut O) -> Result<(), JobStop<Refusal>> {
+    fn finish<O: Sink>(&mut self, end: &InputEnd<Cut>, _: &mut O) -> Answer<Why> {
         match end {
             InputEnd::Cut(cut) => Err(JobStop::Refused(Refusal {
                 index: self.sender.sent(),

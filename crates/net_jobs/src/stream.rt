@@ -2,7 +2,7 @@
 ghost use Rattle.std.specs.Prelude.{◌≡◌};
 ghost use Rattle.rtp_packet.specs.RtpRead.{rtp_value};
 ghost use Rattle.rtp_packet.specs.RtpFault.{rtp_fault};
-ghost use Rattle.net_jobs.specs.Arrive.{is_asked, is_chosen, is_wanted, is_packet, stream_of, packet_sort, rtp_sort, record_sort};
+ghost use Rattle.net_jobs.specs.Arrive.{is_chosen, is_wanted, is_packet, stream_of, packet_sort, rtp_sort, record_sort};
 ghost use Rattle.net_jobs.specs.Sorts.{sort_value};
 
 use opus_feed::Framing;
@@ -28,9 +28,9 @@ pub struct Asked {
     pub ssrc: Option<u32>,
 }
 
-/// What a record is.
+/// What a record is that is passed over.
 #[derive(Clone, Copy, Debug, PartialEq, Eq)]
-pub(crate) enum Sort<'a> {
+pub(crate) enum Passed {
     /// A packet of RTCP.
     Rtcp,
     /// A packet that was cut when it was recorded.
@@ -39,6 +39,13 @@ pub(crate) enum Sort<'a> {
     Bad,
     /// A packet of another stream.
     Other,
+}
+
+/// What a record is.
+#[derive(Clone, Copy, Debug, PartialEq, Eq)]
+pub(crate) enum Sort<'a> {
+    /// None that arrives.
+    Passed(Passed),
     /// A packet of the stream.
     Arrival(Rtp<'a>),
 }
@@ -64,8 +71,8 @@ pub(crate) fn sort_record<'a>(
     ensures { sort_value result ≡ record_sort asked chosen kind bytes.now }
 {
     match kind {
-        DumpKind::Rtcp => Sort::Rtcp,
-        DumpKind::Cut => Sort::Cut,
+        DumpKind::Rtcp => Sort::Passed(Passed::Rtcp),
+        DumpKind::Cut => Sort::Passed(Passed::Cut),
         DumpKind::Rtp => sort_rtp(asked, chosen, bytes),
     }
 }
@@ -75,7 +82,7 @@ fn sort_rtp<'a>(asked: Asked, chosen: Option<Stream>, bytes: &'a [u8]) -> Sort<'
 {
     match read_rtp(bytes) {
         Ok(packet) => sort_packet(asked, chosen, packet),
-        Err(_) => Sort::Bad,
+        Err(_) => Sort::Passed(Passed::Bad),
     }
 }
 
@@ -83,12 +90,12 @@ fn sort_packet<'a>(asked: Asked, chosen: Option<Stream>, packet: Rtp<'a>) -> Sor
     ensures { sort_value result ≡ packet_sort asked chosen (rtp_value packet.entry) }
 {
     if !is_wanted(asked, chosen, stream_of(packet)) {
-        return Sort::Other;
+        return Sort::Passed(Passed::Other);
     }
     if is_packet(packet.payload) {
         Sort::Arrival(packet)
     } else {
-        Sort::Bad
+        Sort::Passed(Passed::Bad)
     }
 }
 

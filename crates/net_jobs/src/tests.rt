@@ -4,6 +4,7 @@ ghost use Rattle.std.specs.Prelude.{[]};
 mod receive;
 
 use crate::{SendJob, net_job};
+use job_ends::Task;
 use job_loop::{Ending as LoopEnding, Form, run_job};
 use opus_feed::Padding;
 use opus_io::{MemorySink, MemorySource};
@@ -54,7 +55,12 @@ fn sends_packets_without_their_padding(rt: HostRuntime) -> Result<(), Fail> {
     for step in [1, 3, 4096] {
         let mut source = MemorySource::new(rt.alloc(), PADDED, step, &[])?;
         let mut sink = MemorySink::new(rt.alloc(), step, &[])?;
-        let ending = net_job(rt.alloc(), &SEND, LIMIT, &mut source, &mut sink);
+        let task = Task {
+            alloc: rt.alloc(),
+            job: &SEND,
+            limit: LIMIT,
+        };
+        let ending = net_job(task, &mut source, &mut sink);
         assert_eq!(rt; ending, Ending::Ok);
         assert!(rt; is_sent(&sink));
     }

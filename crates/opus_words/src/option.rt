@@ -37,23 +37,6 @@ pub enum Opt {
 }
 
 impl Opt {
-    /// All options, in the order of the table.
-    pub const ALL: [Opt; 13] = [
-        Opt::Form,
-        Opt::Streams,
-        Opt::Stream,
-        Opt::Group,
-        Opt::Frames,
-        Opt::Size,
-        Opt::Pt,
-        Opt::Seq,
-        Opt::Stamp,
-        Opt::Ssrc,
-        Opt::Seed,
-        Opt::Count,
-        Opt::Padding,
-    ];
-
     /// The option's name, without the two dashes before it.
     pub fn name(self) -> &'static str
         ensures { result.now ≡ option_name self }
@@ -72,4 +55,21 @@ impl Opt {
             .find(|pair| pair.0.is(kind))
             .map(|pair| pair.1)
     }
+
+    /// All options, in the order of the table.
+    pub const ALL: [Opt; 13] = [
+        Opt::Form,
+        Opt::Streams,
+        Opt::Stream,
+        Opt::Group,
+        Opt::Frames,
+        Opt::Size,
+        Opt::Pt,
+        Opt::Seq,
+        Opt::Stamp,
+        Opt::Ssrc,
+        Opt::Seed,
+        Opt::Count,
+        Opt::Padding,
+    ];
 }

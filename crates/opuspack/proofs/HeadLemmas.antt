@@ -13,9 +13,9 @@ use Rattle.opus_head.proofs.ReadingLemmas.{spelled-read, spelled-passes}
 use Rattle.opus_words.specs.declared.ending.Ending.TheVariants.{NoMemory}
 use Rattle.opuspack.specs.Texts.{all_texts}
 use Rattle.opuspack.specs.HeadLines.{factor_text, matrix_line, head_lines}
-use Rattle.opuspack.specs.Whole.{WholeSettles, WholeEnds}
+use Rattle.opuspack.specs.Whole.{WholeSettles, WholeEnds, place_of}
 use Rattle.opuspack.specs.Head.{head, head_step, TellsHead}
-use Rattle.opuspack.specs.HeadEnds.{place_of, HeadEnds}
+use Rattle.opuspack.specs.HeadEnds.{HeadEnds}
 
 -- the factors of a table
 abbrev pub factors_text : HeadValue → Table → List ℕ

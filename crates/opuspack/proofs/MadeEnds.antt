@@ -12,7 +12,7 @@ use Rattle.job_loop.proofs.StepLemmas.{Front-all, Front-kept}
 use Rattle.opuspack.specs.declared.made.MadeRecord.{MadeRecord}
 use Rattle.opuspack.specs.declared.never.Never.{Never}
 use Rattle.opuspack.specs.Made.{made_records}
-use Rattle.opuspack.specs.RunMade.{HasTaken}
+use Rattle.opuspack.specs.RunGenerated.{HasTaken}
 use Rattle.opuspack.proofs.MadeReached.{stopped_front}
 
 module _ {K : Type 0} (m : Meaning (Shown MadeRecord) K Never Never) (Job : K → Type 0) (seed count : ℕ) where

@@ -12,7 +12,7 @@ use Rattle.job_loop.proofs.RunLemmas.{runs-append, runs-on, runs-broke, adds_tex
 use Rattle.opuspack.specs.declared.made.MadeRecord.{MadeRecord}
 use Rattle.opuspack.specs.declared.never.Never.{Never}
 use Rattle.opuspack.specs.Made.{made_bytes, made_shown, made_records}
-use Rattle.opuspack.specs.RunMade.{HasTaken}
+use Rattle.opuspack.specs.RunGenerated.{HasTaken}
 
 made_records-more : (seed number : ℕ) → made_records seed (number + 1) ≡ made_records seed number ++ made_shown seed number ∷ []
 made_records-more seed number = map-range_with_len_more (made_shown seed) 0 number number (omega arith)

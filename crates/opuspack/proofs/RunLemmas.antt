@@ -15,7 +15,7 @@ use Rattle.opus_words.specs.declared.kind.JobKind.{JobKind}
 use Rattle.opus_words.specs.declared.kind.JobKind.TheVariants.{Norm, Check, Show, Merge, Split, Pad, Apart, Join, Extract, Head, Send, Recv, Replay, Sdp, Make, Trial}
 use Rattle.opus_words.specs.declared.option.Opt.TheVariants as opt
 use Rattle.pack_jobs.specs.PackEnds.{IsPackKind, IsPackJob, PackEnds, settles_in, ends_in}
-use Rattle.job_ends.specs.Choices.{form_in, padding_in}
+use Rattle.job_ends.specs.Choices.{form_in, padding_in, stream_count}
 use Rattle.pack_jobs.proofs.PackLemmas as packs
 use Rattle.stream_jobs.specs.StreamEnds.{IsStreamKind, IsStreamForm, IsStreamJob, StreamEnds, form_by, form_of, choices_in}
 use Rattle.stream_jobs.specs.StreamEnds as stream
@@ -31,7 +31,7 @@ use Rattle.job_ends.proofs.EndsLemmas.{unstarted_ends}
 use Rattle.text_jobs.specs.Lines.{place_of, LineSettles, LineEnds}
 use Rattle.text_jobs.specs.Sdp.{sdp, TellsSdp}
 use Rattle.opuspack.proofs.HeadLemmas.{head_unstarted}
-use Rattle.opuspack.specs.Run.{Meant, KindEnds, OverPackets, is_several, streams_in, seed_in, count_in}
+use Rattle.opuspack.specs.Run.{Meant, KindEnds, OverPackets, is_several, seed_in, count_in}
 
 -- it is none of the jobs that another call does
 pub record IsOther (kind : JobKind) : Type 0 where
@@ -245,7 +245,7 @@ unstarted Apart job limit outside Unread Unwritten unread same fit is =
 unstarted Extract job limit outside Unread Unwritten unread same fit is =
     stream_unstarted job limit outside Unread unread (is_parted_job job (inr is))
 unstarted Join job limit outside Unread Unwritten unread same fit is =
-    unstarted_join (streams_in job) limit outside Unread unread
+    unstarted_join (stream_count job) limit outside Unread unread
 unstarted Send job limit outside Unread Unwritten unread same fit is =
     unstarted_net job.kind (subst IsNetKind (sym is) tt) job limit outside Unread unread
 unstarted Recv job limit outside Unread Unwritten unread same fit is =

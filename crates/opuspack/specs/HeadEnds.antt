@@ -1,16 +1,10 @@
 -- What a run of the job head says.
 use Rattle.std.specs.Prelude.{ℕ}
 use Rattle.opus_io.specs.Outside.{Outside}
-use Rattle.job_loop.specs.Shown.{Shown}
 use Rattle.opus_words.specs.declared.ending.Ending.{Ending}
 use Rattle.job_ends.specs.Ends.{MeaningEnds}
-use Rattle.opuspack.specs.declared.whole.WholeInput.{WholeInput}
-use Rattle.opuspack.specs.Whole.{WholeSettles, WholeEnds}
+use Rattle.opuspack.specs.Whole.{WholeSettles, WholeEnds, place_of}
 use Rattle.opuspack.specs.Head.{head, TellsHead}
-
--- how many bytes were there when the record was decided: all of the input
-abbrev pub place_of : Shown WholeInput → ℕ
-place_of r = r.item.size
 
 -- how the job ended over the whole input; want of memory may come at any time
 abbrev pub HeadEnds : ℕ → Outside → Outside → Ending → Type 0

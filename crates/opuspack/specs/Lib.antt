@@ -10,7 +10,7 @@ pub mod HeadEnds
 pub mod WritesText
 pub mod Made
 pub mod Make
-pub mod RunMade
+pub mod RunGenerated
 pub mod MadePackets
 pub mod Totals
 pub mod Trial

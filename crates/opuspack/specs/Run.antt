@@ -1,5 +1,5 @@
 -- What the whole program does with its words, its input and its output.
-use Rattle.std.specs.Prelude.{◌≡◌, ℕ, nat_lt, max, Bool, true, false, Option, Some, None, Result, Ok, Err, unwrap_or}
+use Rattle.std.specs.Prelude.{◌≡◌, ℕ, nat_lt, Bool, true, false, Option, Some, None, Result, Ok, Err, unwrap_or}
 use Rattle.opus_io.specs.Outside.{Outside}
 use Rattle.opus_words.specs.declared.job.Job.{Job}
 use Rattle.opus_words.specs.declared.kind.JobKind.{JobKind}
@@ -9,6 +9,7 @@ use Rattle.opus_words.specs.declared.ending.Ending.TheVariants.{NoMemory}
 use Rattle.opus_words.specs.declared.fault.UsageKind.{UsageKind}
 use Rattle.pack_jobs.specs.PackEnds.{PackEnds}
 use Rattle.job_ends.specs.Ends.{MeaningEnds}
+use Rattle.job_ends.specs.Choices.{stream_count}
 use Rattle.net_jobs.specs.NetEnds.{NetEnds}
 use Rattle.stream_jobs.specs.StreamEnds.{StreamEnds}
 use Rattle.stream_jobs.specs.JoinEnds.{JoinEnds}
@@ -33,10 +34,6 @@ abbrev pub is_several : Option ℕ → Bool
 is_several None = false
 is_several (Some n) = nat_lt 1 n
 
--- the records of a group of join: one at least, also where the words name none
-abbrev pub streams_in : Job → ℕ
-streams_in job = max 1 (unwrap_or job.streams 1)
-
 -- a job over packets ended so, where each is a multistream packet or one of a single stream
 abbrev pub OverPackets : Bool → Job → ℕ → Outside → Outside → Type 0 → Ending → Type 0
 OverPackets true job = StreamEnds job
@@ -58,7 +55,7 @@ KindEnds kinds.Trial job limit before after Unread Unwritten ending =
 KindEnds kinds.Apart job limit before after Unread Unwritten ending = StreamEnds job limit before after Unread ending
 KindEnds kinds.Extract job limit before after Unread Unwritten ending = StreamEnds job limit before after Unread ending
 KindEnds kinds.Join job limit before after Unread Unwritten ending =
-    JoinEnds (streams_in job) limit before after Unread ending
+    JoinEnds (stream_count job) limit before after Unread ending
 KindEnds kind job limit before after Unread Unwritten ending =
     OverPackets (is_several job.streams) job limit before after Unread ending
 

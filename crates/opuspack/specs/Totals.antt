@@ -3,6 +3,7 @@ use Rattle.std.specs.Prelude.{ℕ, List, [], ◌∷◌, ◌++◌, ◌≡◌, ◌
 use Rattle.opus_packet.specs.Value.{PacketValue, duration_of}
 use Rattle.opus_packet.specs.Canonical.{canonical}
 use Rattle.job_ends.specs.Refusal.{told}
+use Rattle.pack_jobs.specs.Named.{named}
 use Rattle.opuspack.specs.declared.made.MadeRecord.{MadeRecord}
 use Rattle.opuspack.specs.declared.totals.Totals.{Totals}
 use Rattle.opuspack.specs.Made.{made_bytes}
@@ -55,10 +56,6 @@ told_totals t = record {
   size_out = told t.size_out;
   sum = told t.sum;
 }
-
--- ` NAME N`
-abbrev pub named : List ℕ → ℕ → List ℕ
-named name n = 32 ∷ (name ++ 32 ∷ decimal n)
 
 unfoldable pub totals_line : Totals → List ℕ
 totals_line t =

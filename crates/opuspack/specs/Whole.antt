@@ -13,6 +13,10 @@ kept_most = 115792
 abbrev pub whole_record : List ℕ → Shown WholeInput
 whole_record x = record { item = record { size = length x }; bytes = take kept_most x }
 
+-- how many bytes were there when the record was decided: all of the input
+abbrev pub place_of : Shown WholeInput → ℕ
+place_of r = r.item.size
+
 -- no bytes decide the record
 pub record WholeSettles (h : List ℕ) (rs : List (Shown WholeInput)) : Type 0 where
   pub are_bytes : AreBytes h

@@ -1,5 +1,5 @@
 //! The job head: lines that tell of the OpusHead that is the whole input (RFC 7845, 5.1; RFC 8486).
-ghost use Rattle.std.specs.Prelude.{◌≡◌, ◌≤◌, ◌++◌, OnOk, OnErr, length};
+ghost use Rattle.std.specs.Prelude.{◌≡◌, ◌≤◌, OnOk, OnErr};
 ghost use Rattle.opus_io.specs.Reader.{max_input};
 ghost use Rattle.std.specs.Io.KnownBytes.{Appends};
 ghost use Rattle.opus_io.specs.Sink.{SinkCause, Onward};
@@ -13,7 +13,7 @@ use crate::never::Never;
 use crate::texts::write_texts;
 use crate::whole::{WholeForm, WholeInput};
 use arrayvec::ArrayString;
-use job_ends::{Told, run_told};
+use job_ends::{Told, run_told, text_of};
 use job_loop::{InputEnd, JobStop, Lent, RecordJob};
 use opus_head::{Head, HeadFault, Table, read_head};
 use opus_io::{NoMemory, Sink, SinkStop, Source, write_all};
@@ -64,6 +64,9 @@ pub(crate) fn head_job<S: Source, O: Sink>(
     }
 }
 
+// What the job answers to its one record or to the end.
+type Answer = Result<(), JobStop<HeadRefusal>>;
+
 /// Writes the lines of the head that the input's first bytes are.
 #[derive(Drop)]
 struct HeadJob {
@@ -85,11 +88,7 @@ impl RecordJob<WholeInput, Never> for HeadJob {
         &[]
     }
 
-    fn take<O: Sink>(
-        &mut self,
-        item: &Lent<'_, WholeInput>,
-        out: &mut O,
-    ) -> Result<(), JobStop<HeadRefusal>> {
+    fn take<O: Sink>(&mut self, item: &Lent<'_, WholeInput>, out: &mut O) -> Answer {
         let bytes = item.bytes();
         match read_head(self.alloc, bytes) {
             Ok(head) => match write_head_lines(&head, out) {
@@ -104,11 +103,7 @@ impl RecordJob<WholeInput, Never> for HeadJob {
         }
     }
 
-    fn finish<O: Sink>(
-        &mut self,
-        _: &InputEnd<Never>,
-        _: &mut O,
-    ) -> Result<(), JobStop<HeadRefusal>> {
+    fn finish<O: Sink>(&mut self, _: &InputEnd<Never>, _: &mut O) -> Answer {
         Ok(())
     }
 }
@@ -186,14 +181,5 @@ fn mapping_text(channel: u8) -> ArrayString<64>
 {
     let mut text = text_of("mapping ");
     text.push_str(decimal_text(u64::from(channel)).as_str());
-    text
-}
-
-fn text_of(words: &str) -> ArrayString<64>
-    requires { length words.now ≤ 8 }
-    ensures { result.bytes ≡ words.now }
-{
-    let mut text = ArrayString::new();
-    text.push_str(words);
     text
 }

@@ -1,5 +1,5 @@
 //! The lines that tell of an OpusHead, in pieces of fixed memory.
-ghost use Rattle.std.specs.Prelude.{◌≡◌, ◌+◌, ◌≤◌, ◌++◌, ◌∷◌, [], length, decimal};
+ghost use Rattle.std.specs.Prelude.{◌≡◌, ◌+◌, ◌≤◌, ◌++◌, length, decimal};
 ghost use Rattle.std.specs.Fmt.{signed_decimal};
 ghost use Rattle.arrayvec.specs.ArrayString.{array_string_len};
 ghost use Rattle.opus_head.specs.Factors.{factors_of, table_entries};
@@ -94,21 +94,12 @@ fn route_text(route: Route) -> ArrayString<33>
     ensures { result.bytes ≡ route_text route }
 {
     match route {
-        Route::Silence => word("silence"),
+        Route::Silence => ArrayString::from("silence").unwrap(),
         Route::Mono { stream } => stream_text(stream, ""),
         Route::Left { stream } => stream_text(stream, " left"),
         Route::Right { stream } => stream_text(stream, " right"),
-        Route::Matrix => word("matrix"),
+        Route::Matrix => ArrayString::from("matrix").unwrap(),
     }
-}
-
-fn word(word: &str) -> ArrayString<33>
-    requires { length word.now ≤ 33 }
-    ensures { result.bytes ≡ word.now }
-{
-    let mut text = ArrayString::new();
-    text.push_str(word);
-    text
 }
 
 // A stream, or a side of it.

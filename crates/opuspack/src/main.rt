@@ -11,7 +11,7 @@ mod made;
 mod make;
 mod never;
 mod run;
-mod run_made;
+mod run_generated;
 mod status;
 #[cfg(test)]
 mod tests;

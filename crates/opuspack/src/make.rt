@@ -1,12 +1,12 @@
 //! The job make: the `opus_demo` store of a seed's first records.
-ghost use Rattle.std.specs.Prelude.{◌≡◌, ◌^◌, ◌<◌, length};
+ghost use Rattle.std.specs.Prelude.{◌≡◌, ◌<◌};
 ghost use Rattle.opuspack.specs.Make.{make, made_store};
 ghost use Rattle.opuspack.specs.WritesText.{WritesText};
 
 use crate::made::MadeRecord;
 use crate::never::Never;
-use crate::run_made::run_made;
-use job_loop::{InputEnd, JobStop, Lent, RecordJob, write_both};
+use crate::run_generated::{Answer, run_generated};
+use job_loop::{InputEnd, Lent, RecordJob, write_both};
 use opus_io::Sink;
 use opus_words::Ending;
 use rec_store::demo_head;
@@ -18,7 +18,7 @@ pub(crate) fn make_job<O: Sink>(alloc: Global, seed: u32, count: u32, out: &mut 
         (O.faults out.old) (O.faults out.new) (O.refusals out.old) (O.refusals out.new)
         (out.new ≡ out.old) result }
 {
-    run_made(alloc, seed, count, &mut Make, out)
+    run_generated(alloc, seed, count, &mut Make, out)
 }
 
 /// Writes each record into the store.
@@ -34,24 +34,18 @@ impl RecordJob<MadeRecord, Never> for Make {
 
     ghost stands = { λ _ _. Unit {0} };
 
-    ghost lacks = { λ _. ⊥ };
-
     fn opening(&self) -> &[u8] {
         &[]
     }
 
-    fn take<O: Sink>(
-        &mut self,
-        item: &Lent<'_, MadeRecord>,
-        out: &mut O,
-    ) -> Result<(), JobStop<Never>> {
+    fn take<O: Sink>(&mut self, item: &Lent<'_, MadeRecord>, out: &mut O) -> Answer {
         let payload = item.bytes();
         let head = demo_head(payload.len() as u32, item.item().number);
         write_both(out, &head, payload)?;
         Ok(())
     }
 
-    fn finish<O: Sink>(&mut self, _: &InputEnd<Never>, _: &mut O) -> Result<(), JobStop<Never>> {
+    fn finish<O: Sink>(&mut self, _: &InputEnd<Never>, _: &mut O) -> Answer {
         Ok(())
     }
 }

@@ -1,18 +1,19 @@
 //! The whole program, over any source and any sinks.
-ghost use Rattle.std.specs.Prelude.{◌≡◌, ℕ, ◌^◌, ◌≤◌, map, string_bytes};
+ghost use Rattle.std.specs.Prelude.{◌≡◌, ◌^◌, ◌≤◌, map, string_bytes};
 ghost use Rattle.opus_words.specs.Fit.{IsFit};
 ghost use Rattle.opus_words.specs.Words.{job_of_words};
 ghost use Rattle.job_ends.specs.Ends.{seen_as};
 ghost use Rattle.opuspack.specs.declared.finish.Finish.{Finish};
 ghost use Rattle.opuspack.specs.Finish.{status_of, note_of, Noted};
 ghost use Rattle.pack_jobs.specs.PackEnds.{IsPackKind};
-ghost use Rattle.opuspack.specs.Run.{Meant, KindEnds, OverPackets, is_several, streams_in, seed_in, count_in};
+ghost use Rattle.opuspack.specs.Run.{Meant, KindEnds, OverPackets, is_several, seed_in, count_in};
 
 use crate::finish::Finish;
 use crate::head::head_job;
 use crate::make::make_job;
 use crate::status::Status;
 use crate::trial::trial_job;
+use job_ends::{Task, stream_count};
 use net_jobs::net_job;
 use opus_io::{Sink, Source};
 use opus_words::{Ending, Job, JobKind, WordsFault, job_of};
@@ -80,61 +81,53 @@ fn do_job<S: Source, O: Sink>(
         source.old source.new out.old out.new }
 {
     match job_of(alloc, words) {
-        Ok(job) => Finish::Ended(do_kind(alloc, &job, limit, source, out)),
+        Ok(job) => {
+            let task = Task {
+                alloc,
+                job: &job,
+                limit,
+            };
+            Finish::Ended(do_kind(task, source, out))
+        }
         Err(WordsFault::Usage(kind)) => Finish::Usage(kind),
         Err(WordsFault::NoMemory) => Finish::Ended(Ending::NoMemory),
     }
 }
 
 // Does a job: one line a job, and one for all jobs over packets.
-fn do_kind<S: Source, O: Sink>(
-    alloc: Global,
-    job: &Job,
-    limit: u64,
-    source: &mut S,
-    out: &mut O,
-) -> Ending
-    requires some { 1 ≤ limit }
-    requires most { limit ≤ 2 ^ 40 }
-    requires fit { IsFit job.now }
-    ensures { KindEnds job.now.kind job.now limit
+fn do_kind<S: Source, O: Sink>(task: Task<'_>, source: &mut S, out: &mut O) -> Ending
+    requires { IsFit task.job.now }
+    ensures { KindEnds task.entry.job.now.kind task.entry.job.now task.entry.limit
         (seen_as (S.left source.old) (S.faults source.old) (O.contents out.old) (O.faults out.old) (O.refusals out.old))
         (seen_as (S.left source.new) (S.faults source.new) (O.contents out.new) (O.faults out.new) (O.refusals out.new))
         (source.new ≡ source.old) (out.new ≡ out.old) result }
 {
+    let Task { alloc, job, limit } = task;
     match job.kind {
         JobKind::Head => head_job(alloc, limit, source, out),
-        JobKind::Send | JobKind::Recv | JobKind::Replay => net_job(alloc, job, limit, source, out),
+        JobKind::Send | JobKind::Recv | JobKind::Replay => net_job(task, source, out),
         JobKind::Sdp => text_job(alloc, limit, source, out),
-        JobKind::Apart | JobKind::Extract => stream_job(alloc, job, limit, source, out),
-        JobKind::Join => join_job(alloc, streams_in(job), limit, source, out),
+        JobKind::Apart | JobKind::Extract => stream_job(task, source, out),
+        JobKind::Join => join_job(alloc, stream_count(job), limit, source, out),
         JobKind::Make => make_job(alloc, seed_in(job), count_in(job), out),
         JobKind::Trial => trial_job(alloc, seed_in(job), count_in(job), out),
-        _ => packet_job(alloc, job, limit, source, out),
+        _ => packet_job(task, source, out),
     }
 }
 
 // Does a job over packets, which may be multistream packets.
-fn packet_job<S: Source, O: Sink>(
-    alloc: Global,
-    job: &Job,
-    limit: u64,
-    source: &mut S,
-    out: &mut O,
-) -> Ending
-    requires some { 1 ≤ limit }
-    requires most { limit ≤ 2 ^ 40 }
-    requires fit { IsFit job.now }
-    requires kind { IsPackKind job.now.kind }
-    ensures { OverPackets (is_several job.now.streams) job.now limit
+fn packet_job<S: Source, O: Sink>(task: Task<'_>, source: &mut S, out: &mut O) -> Ending
+    requires fit { IsFit task.job.now }
+    requires kind { IsPackKind task.job.now.kind }
+    ensures { OverPackets (is_several task.entry.job.now.streams) task.entry.job.now task.entry.limit
         (seen_as (S.left source.old) (S.faults source.old) (O.contents out.old) (O.faults out.old) (O.refusals out.old))
         (seen_as (S.left source.new) (S.faults source.new) (O.contents out.new) (O.faults out.new) (O.refusals out.new))
         (source.new ≡ source.old) result }
 {
-    if is_several(job.streams) {
-        stream_job(alloc, job, limit, source, out)
+    if is_several(task.job.streams) {
+        stream_job(task, source, out)
     } else {
-        pack_job(alloc, job, limit, source, out)
+        pack_job(task, source, out)
     }
 }
 
@@ -146,14 +139,6 @@ fn is_several(streams: Option<u8>) -> bool
         Some(streams) => streams > 1,
         None => false,
     }
-}
-
-// The records of a group.
-fn streams_in(job: &Job) -> u8
-    ensures is { result ≡ streams_in job.now }
-    ensures some { 1 ≤ result }
-{
-    job.streams.unwrap_or(1).max(1)
 }
 
 // What records are made from.

@@ -1,59 +1,35 @@
 //! What is told of made records in the end.
-ghost use Rattle.std.specs.Prelude.{◌≡◌, ◌+◌, ◌≤◌, ◌++◌, length};
-ghost use Rattle.arrayvec.specs.ArrayString.{array_string_len};
+ghost use Rattle.std.specs.Prelude.{◌≡◌, ◌+◌, length};
 ghost use Rattle.opus_packet.specs.Value.{duration_of};
 ghost use Rattle.opus_packet.specs.Canonical.{canonical};
 ghost use Rattle.job_ends.specs.Refusal.{told};
-ghost use Rattle.opuspack.specs.Totals.{named, totals_line};
+ghost use Rattle.opuspack.specs.Totals.{totals_line};
 
 use arrayvec::ArrayString;
 use opus_packet::Packet;
 use opus_writer::canon_size;
-use pack_jobs::decimal_text;
+use pack_jobs::{decimal_text, push_named};
 
-/// Totals of records, each counted up to 2^64 - 1.
-#[derive(Clone, Copy, Debug, PartialEq, Eq)]
+/// Totals of records, each counted up to 2^64 - 1: by default those of no records.
+#[derive(Clone, Copy, Debug, Default, PartialEq, Eq)]
 pub(crate) struct Totals {
     /// Records, the lost ones among them.
-    pub(crate) records: u64,
+    records: u64,
     /// Lost records.
-    pub(crate) lost: u64,
+    lost: u64,
     /// Frames of all packets.
-    pub(crate) frames: u64,
+    frames: u64,
     /// Samples at 48 kHz of all frames.
-    pub(crate) samples: u64,
+    samples: u64,
     /// Bytes of the packets as they were made.
-    pub(crate) size_in: u64,
+    size_in: u64,
     /// Bytes of the packets in canonical form.
-    pub(crate) size_out: u64,
+    size_out: u64,
     /// The sum of these bytes.
-    pub(crate) sum: u64,
+    sum: u64,
 }
 
 impl Totals {
-    /// The totals of no records.
-    pub(crate) fn new() -> Totals
-        ensures { result ≡ record {
-          records = 0;
-          lost = 0;
-          frames = 0;
-          samples = 0;
-          size_in = 0;
-          size_out = 0;
-          sum = 0;
-        } }
-    {
-        Totals {
-            records: 0,
-            lost: 0,
-            frames: 0,
-            samples: 0,
-            size_in: 0,
-            size_out: 0,
-            sum: 0,
-        }
-    }
-
     /// Counts a lost record.
     pub(crate) fn add_lost(&mut self)
         ensures { self.new ≡ record self.old {
@@ -100,15 +76,4 @@ impl Totals {
         line.push_str("\n");
         line
     }
-}
-
-fn push_named(line: &mut ArrayString<192>, name: &str, number: u64)
-    requires { array_string_len line.old + length name.now + 22 ≤ 192 }
-    ensures text { line.new.bytes ≡ line.old.bytes ++ named name.now number }
-    ensures len { array_string_len line.new ≤ array_string_len line.old + length name.now + 22 }
-{
-    line.push_str(" ");
-    line.push_str(name);
-    line.push_str(" ");
-    line.push_str(decimal_text(number).as_str());
 }

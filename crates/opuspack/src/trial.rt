@@ -12,10 +12,10 @@ ghost use Rattle.opuspack.specs.WritesText.{WritesText};
 
 use crate::made::MadeRecord;
 use crate::never::Never;
-use crate::run_made::run_made;
+use crate::run_generated::{Answer, run_generated};
 use crate::totals::Totals;
 use arrayvec::ArrayVec;
-use job_loop::{InputEnd, JobStop, Lent, RecordJob, write_both};
+use job_loop::{InputEnd, Lent, RecordJob, write_both};
 use opus_io::{Sink, SinkStop, write_all};
 use opus_packet::{Packet, decode};
 use opus_words::Ending;
@@ -31,9 +31,9 @@ pub(crate) fn trial_job<O: Sink>(alloc: Global, seed: u32, count: u32, out: &mut
         (out.new ≡ out.old) result }
 {
     let mut job = Trial {
-        totals: Totals::new(),
+        totals: Totals::default(),
     };
-    run_made(alloc, seed, count, &mut job, out)
+    run_generated(alloc, seed, count, &mut job, out)
 }
 
 /// Writes each record in normal form, and counts.
@@ -53,22 +53,16 @@ impl RecordJob<MadeRecord, Never> for Trial {
 
     ghost stands = { TrialStands };
 
-    ghost lacks = { λ _. ⊥ };
-
     fn opening(&self) -> &[u8] {
         &[]
     }
 
-    fn take<O: Sink>(
-        &mut self,
-        item: &Lent<'_, MadeRecord>,
-        out: &mut O,
-    ) -> Result<(), JobStop<Never>> {
+    fn take<O: Sink>(&mut self, item: &Lent<'_, MadeRecord>, out: &mut O) -> Answer {
         self.take_made(*item.item(), item.bytes(), out)?;
         Ok(())
     }
 
-    fn finish<O: Sink>(&mut self, _: &InputEnd<Never>, out: &mut O) -> Result<(), JobStop<Never>> {
+    fn finish<O: Sink>(&mut self, _: &InputEnd<Never>, out: &mut O) -> Answer {
         write_all(out, self.totals.line().as_str().as_bytes())?;
         Ok(())
     }

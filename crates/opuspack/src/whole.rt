@@ -1,7 +1,6 @@
 //! An input that is one record as a whole.
-ghost use Rattle.std.specs.Prelude.{◌≡◌, ◌≤◌, ℕ, List, [], ◌++◌, take, length, vec_len, vec_capacity, IfOk};
-ghost use Rattle.job_loop.specs.Shown.{Shown};
-ghost use Rattle.opuspack.specs.Whole.{WholeSettles, WholeEnds, WholeStands, kept_most};
+ghost use Rattle.std.specs.Prelude.{◌≤◌, [], vec_len, vec_capacity, IfOk};
+ghost use Rattle.opuspack.specs.Whole.{WholeSettles, WholeEnds, WholeStands, place_of};
 ghost use Rattle.opuspack.specs.WholeLaws.{whole_settled, whole_grows, whole_ends_grow, whole_ends_once};
 
 use crate::never::Never;
@@ -17,10 +16,6 @@ const KEPT: usize = 115_792;
 pub(crate) struct WholeInput {
     /// How many bytes it has.
     pub(crate) size: u64,
-}
-
-impl Numbers for WholeInput {
-    ghost fits = { λ _ _. Unit {0} };
 }
 
 /// Keeps the first 115,792 bytes of an input and counts the others. Its one record is decided by the end.
@@ -44,6 +39,10 @@ impl WholeForm {
     }
 }
 
+impl Numbers for WholeInput {
+    ghost fits = { λ _ _. Unit {0} };
+}
+
 impl Form for WholeForm {
     type Record = WholeInput;
 
@@ -57,7 +56,7 @@ impl Form for WholeForm {
 
     ghost ends = { λ _. WholeEnds };
 
-    ghost place = { λ r. r.item.size };
+    ghost place = { place_of };
 
     ghost stands = { λ f. WholeStands f.kept.items };
 

@@ -1,9 +1,9 @@
 //! Why the job sdp refuses an input.
-ghost use Rattle.std.specs.Prelude.{◌≡◌, ◌≤◌, length};
+ghost use Rattle.std.specs.Prelude.{◌≡◌};
 ghost use Rattle.text_jobs.specs.Telling.{fault_place, sdp_fault_text};
 
 use arrayvec::ArrayString;
-use job_ends::Told;
+use job_ends::{Told, text_of};
 use opus_sdp::SdpFault;
 use opus_words::JobFault;
 
@@ -60,13 +60,4 @@ fn fault_text(fault: SdpFault) -> ArrayString<64>
         SdpFault::Value(_) => text_of("value"),
         SdpFault::NoMemory => ArrayString::new(),
     }
-}
-
-fn text_of(words: &str) -> ArrayString<64>
-    requires { length words.now ≤ 12 }
-    ensures { result.bytes ≡ words.now }
-{
-    let mut text = ArrayString::new();
-    text.push_str(words);
-    text
 }

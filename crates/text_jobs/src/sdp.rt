@@ -9,6 +9,9 @@ use opus_io::{Sink, SinkStop, write_all};
 use opus_sdp::SdpFault;
 use std::alloc::Global;
 
+// What the job answers to a line or to the end.
+type Answer = Result<(), JobStop<SdpRefusal>>;
+
 /// Writes each line in its printed form, and passes over lines of blanks alone.
 #[derive(Drop)]
 pub struct Sdp {
@@ -64,11 +67,7 @@ impl RecordJob<Line, NoCut> for Sdp {
         &[]
     }
 
-    fn take<O: Sink>(
-        &mut self,
-        item: &Lent<'_, Line>,
-        out: &mut O,
-    ) -> Result<(), JobStop<SdpRefusal>> {
+    fn take<O: Sink>(&mut self, item: &Lent<'_, Line>, out: &mut O) -> Answer {
         let line = item.bytes();
         if !are_blank(line) {
             self.text.clear();
@@ -82,11 +81,7 @@ impl RecordJob<Line, NoCut> for Sdp {
         Ok(())
     }
 
-    fn finish<O: Sink>(
-        &mut self,
-        _: &InputEnd<NoCut>,
-        _: &mut O,
-    ) -> Result<(), JobStop<SdpRefusal>> {
+    fn finish<O: Sink>(&mut self, _: &InputEnd<NoCut>, _: &mut O) -> Answer {
         Ok(())
     }
 }

@@ -3,6 +3,7 @@ ghost use Rattle.net_jobs.specs.NetEnds.{IsNetJob};
 
 use super::LIMIT;
 use crate::{Telling, net_job};
+use job_ends::Task;
 use opus_io::{MemorySink, MemorySource};
 use opus_words::{Ending, Job, JobKind};
 use std::alloc::Global;
@@ -219,7 +220,12 @@ fn answers(
 {
     let mut source = MemorySource::new(alloc, input, step.max(1), &[])?;
     let mut out = MemorySink::new(alloc, 4096, &[])?;
-    let ending = net_job(alloc, job, LIMIT, &mut source, &mut out);
+    let task = Task {
+        alloc,
+        job,
+        limit: LIMIT,
+    };
+    let ending = net_job(task, &mut source, &mut out);
     Ok(is_fault(&ending, fault) && out.contents() == text)
 }
 
@@ -267,7 +273,12 @@ fn stores_far(alloc: Global, step: usize) -> Result<bool, Fail> {
     let mut source = MemorySource::new(alloc, &input, step.max(1), &[])?;
     let mut out = MemorySink::new(alloc, 4096, &[])?;
     let recv = job(Telling::Store, None, None);
-    let ending = net_job(alloc, &recv, LIMIT, &mut source, &mut out);
+    let task = Task {
+        alloc,
+        job: &recv,
+        limit: LIMIT,
+    };
+    let ending = net_job(task, &mut source, &mut out);
     let zeros = out.contents().iter().filter(|byte| **byte == 0).count();
     Ok(ending == Ending::Ok && out.contents().len() == 262_156 && zeros == 262_150)
 }
@@ -287,7 +298,12 @@ fn replays_far(alloc: Global, limit: u64, fails: &[u64]) -> Result<(Ending, Vec<
     let mut source = MemorySource::new(alloc, &input, 1, fails)?;
     let mut out = MemorySink::new(alloc, 4096, &[])?;
     let replay = job(Telling::Lines, None, None);
-    let ending = net_job(alloc, &replay, limit.clamp(1, LIMIT), &mut source, &mut out);
+    let task = Task {
+        alloc,
+        job: &replay,
+        limit: limit.clamp(1, LIMIT),
+    };
+    let ending = net_job(task, &mut source, &mut out);
     Ok((ending, Vec::from_slice(alloc, out.contents())?))
 }
 

@@ -1,6 +1,5 @@
 use Rattle.opuspack.specs.Head.{head, TellsHead}
-use Rattle.opuspack.specs.Whole.{WholeSettles, WholeEnds}
-use Rattle.opuspack.specs.HeadEnds.{place_of}
+use Rattle.opuspack.specs.Whole.{WholeSettles, WholeEnds, place_of}
 use Rattle.job_ends.proofs.EndsLemmas.{ends_wanting}
 use Rattle.opuspack.proofs.HeadLemmas.{head_unstarted}
 use Rattle.opuspack.proofs.head.head_job.Goals as goal

@@ -1,16 +1,16 @@
 use Rattle.opuspack.proofs.RunLemmas.{is_net_job, is_pack_kind, is_parted_job, net_kind}
 use Rattle.opuspack.proofs.run.do_kind.Goals as goal
 
-pub net_job-requires-clause-job : goal.net_job-requires-clause-job
-net_job-requires-clause-job g c =
-    is_net_job c.args.job.now (net_kind c.args.job.now.kind c.in-Send.is) c.requires.fit
+pub net_job-requires : goal.net_job-requires
+net_job-requires g c =
+    is_net_job c.args.task.job.now (net_kind c.args.task.job.now.kind c.in-Send.is) c.requires
 
-pub stream_job-requires-clause-job : goal.stream_job-requires-clause-job
-stream_job-requires-clause-job g c = is_parted_job c.args.job.now c.in-Apart.is
+pub stream_job-requires : goal.stream_job-requires
+stream_job-requires g c = is_parted_job c.args.task.job.now c.in-Apart.is
 
 pub packet_job-requires-clause-kind : goal.packet_job-requires-clause-kind
 packet_job-requires-clause-kind g c =
-    is_pack_kind c.args.job.now.kind (record {
+    is_pack_kind c.args.task.job.now.kind (record {
       head = c.in_default.not-Head;
       send = c.in_default.not-Send;
       recv = c.in_default.not-Recv;

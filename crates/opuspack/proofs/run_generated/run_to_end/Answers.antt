@@ -4,7 +4,7 @@ use Rattle.job_loop.specs.Telling.{Goes, Stops}
 use Rattle.job_loop.specs.declared.input_end.InputEnd.TheVariants.{Closed}
 use Rattle.job_loop.proofs.RunLemmas.{meant_end}
 use Rattle.opuspack.proofs.MadeEnds.{records_front, finish_front, flush_front}
-use Rattle.opuspack.proofs.run_made.run_to_end.Goals as goal
+use Rattle.opuspack.proofs.run_generated.run_to_end.Goals as goal
 
 pub returns-in-Err-clause-front : goal.returns-in-Err-clause-front
 returns-in-Err-clause-front g c =

@@ -4,7 +4,7 @@ use Rattle.job_loop.specs.Telling.{Goes, Stops}
 use Rattle.job_loop.proofs.RunLemmas.{meant}
 use Rattle.opuspack.specs.Made.{made_shown}
 use Rattle.opuspack.proofs.MadeReached.{shown_is, taken_none, taken_more, taken_front}
-use Rattle.opuspack.proofs.run_made.take_records.Goals as goal
+use Rattle.opuspack.proofs.run_generated.take_records.Goals as goal
 
 pub loop-init : goal.loop-init
 loop-init g c = record {
@@ -16,7 +16,7 @@ loop-init g c = record {
   refusals = omega arith;
   onward = Onward-still _ _;
   taken = taken_none (g.J.RecordJob.meaning c.args.job.now) (g.J.RecordJob.stands c.args.job.now) (g.J.RecordJob.stands c.args.job.now)
-      c.args.records.now.item.seed (g.O.Sink.contents c.args.out.now) c.requires.opening c.requires.start;
+      c.args.records.now.item.seed (g.O.Sink.contents c.args.out.now) c.requires.fresh.0 c.requires.fresh.1;
 }
 
 pub next-requires : goal.next-requires

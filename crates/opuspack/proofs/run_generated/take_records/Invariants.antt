@@ -1,7 +1,7 @@
 use Rattle.std.proofs.Common.{◌≡◌, ◌≤◌}
 use Rattle.opus_io.specs.Sink.{Onward}
-use Rattle.opuspack.specs.RunMade.{HasTaken}
-use Rattle.opuspack.proofs.run_made.take_records.Given as goal
+use Rattle.opuspack.specs.RunGenerated.{HasTaken}
+use Rattle.opuspack.proofs.run_generated.take_records.Given as goal
 
 abbrev pub invariant-loop : goal.invariant-loop
 invariant-loop g l = record {

@@ -2,12 +2,12 @@
 ghost use Rattle.std.specs.Prelude.{◌≡◌, [], OnOk, OnErr};
 ghost use Rattle.std.specs.Io.KnownBytes.{Appends};
 ghost use Rattle.opus_io.specs.Sink.{Onward};
-ghost use Rattle.job_loop.specs.Meaning.{Meaning, run_text, runs, opened, outcome};
+ghost use Rattle.job_loop.specs.Meaning.{run_text, runs, opened, outcome};
 ghost use Rattle.job_loop.specs.Telling.{Front};
 ghost use Rattle.job_loop.specs.Causes.{Causes, is_write_stop, is_memory_stop};
 ghost use Rattle.job_loop.specs.declared.input_end.InputEnd.TheVariants.{Closed};
 ghost use Rattle.opuspack.specs.Made.{made_records};
-ghost use Rattle.opuspack.specs.RunMade.{HasTaken, ending_of};
+ghost use Rattle.opuspack.specs.RunGenerated.{HasTaken, IsFresh, stopped_ending};
 ghost use Rattle.opuspack.specs.WritesText.{WritesText};
 
 use crate::made::{MadeRecord, MadeRecords};
@@ -17,11 +17,14 @@ use opus_io::{Sink, SinkStop};
 use opus_words::Ending;
 use std::alloc::Global;
 
+/// What a job over made records answers to a record or to the end. It refuses nothing.
+pub(crate) type Answer = Result<(), JobStop<Never>>;
+
 /// Does a job over the first `count` records of a seed, and writes its text to `out`, gathered.
 ///
 /// All memory is taken before the first write: 14,455 bytes for a record and 8,192 for writing. `job` was handed
 /// nothing yet, and has no opening.
-pub(crate) fn run_made<J, O>(
+pub(crate) fn run_generated<J, O>(
     alloc: Global,
     seed: u32,
     count: u32,
@@ -31,8 +34,7 @@ pub(crate) fn run_made<J, O>(
 where
     J: RecordJob<MadeRecord, Never, Refusal = Never>,
     O: Sink,
-    requires opening { (J.meaning job.old).opening ≡ [] }
-    requires start { J.stands job.old (J.meaning job.old).start }
+    requires fresh { IsFresh (J.meaning job.old) (J.stands job.old) }
     requires spared { J.lacks job.old → ⊥ }
     ensures { WritesText (run_text (outcome (J.meaning job.old) (made_records seed count) Closed))
         (O.contents out.old) (O.contents out.new) (O.faults out.old) (O.faults out.new)
@@ -47,22 +49,16 @@ where
     let mut gathered = Gathered::over(room, out);
     let stopped = run_to_end(&mut records, count, job, &mut gathered);
     gathered.into_inner();
-    ending_of(stopped)
+    stopped_ending(stopped)
 }
 
 // Hands the records to the job and tells it of the end, and hands on all that it writes.
-fn run_to_end<J, O>(
-    records: &mut MadeRecords,
-    count: u32,
-    job: &mut J,
-    out: &mut O,
-) -> Result<(), JobStop<Never>>
+fn run_to_end<J, O>(records: &mut MadeRecords, count: u32, job: &mut J, out: &mut O) -> Answer
 where
     J: RecordJob<MadeRecord, Never, Refusal = Never>,
     O: Gather,
     requires first { records.old.count ≡ 0 }
-    requires opening { (J.meaning job.old).opening ≡ [] }
-    requires start { J.stands job.old (J.meaning job.old).start }
+    requires fresh { IsFresh (J.meaning job.old) (J.stands job.old) }
     ensures ok { OnOk result (Appends (O.contents out.old) (O.contents out.new)
         (run_text (outcome (J.meaning job.old) (made_records records.old.item.seed count) Closed))) }
     ensures held { OnOk result (O.held out.new ≡ []) }
@@ -86,18 +82,12 @@ where
 }
 
 // Hands so many records to the job.
-fn take_records<J, O>(
-    records: &mut MadeRecords,
-    count: u32,
-    job: &mut J,
-    out: &mut O,
-) -> Result<(), JobStop<Never>>
+fn take_records<J, O>(records: &mut MadeRecords, count: u32, job: &mut J, out: &mut O) -> Answer
 where
     J: RecordJob<MadeRecord, Never, Refusal = Never>,
     O: Sink,
     requires first { records.old.count ≡ 0 }
-    requires opening { (J.meaning job.old).opening ≡ [] }
-    requires start { J.stands job.old (J.meaning job.old).start }
+    requires fresh { IsFresh (J.meaning job.old) (J.stands job.old) }
     ensures same { J.meaning job.new ≡ J.meaning job.old }
     ensures spared { J.lacks job.new → J.lacks job.old }
     ensures ok { OnOk result (HasTaken (J.meaning job.old) (J.stands job.new) records.old.item.seed count
@@ -120,8 +110,8 @@ where
 }
 
 // How the program ends where the job was stopped so, or by nothing.
-fn ending_of(stopped: Result<(), JobStop<Never>>) -> Ending
-    ensures { result ≡ ending_of stopped }
+fn stopped_ending(stopped: Answer) -> Ending
+    ensures { result ≡ stopped_ending stopped }
 {
     match stopped {
         Ok(()) => Ending::Ok,
