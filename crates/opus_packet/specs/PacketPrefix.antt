@@ -1,6 +1,6 @@
 -- What can still become an undelimited packet. The definition is arithmetic on what the header says so
 -- far; a law in src/laws.rt says that it means: some continuation is a packet.
-use Rattle.std.specs.Prelude.{ℕ, ◌+◌, ◌<◌, ◌≤◌, List, ◌++◌, length}
+use Rattle.std.specs.Prelude.{ℕ, ◌+◌, ◌≤◌, List, ◌++◌, length}
 pub use Rattle.opus_io.specs.Bytes.{AreBytes}
 use Rattle.opus_packet.specs.Value.{max_frame}
 use Rattle.opus_packet.specs.Header.{Header, header_bytes, body_size, padding_data}
