@@ -9,13 +9,9 @@ use Rattle.rec_store.specs.DumpItem.{IsOwnLength}
 use Rattle.rec_store.specs.DumpLine.{IsOneLine, IsDumpLine, IsBadLine, IsLinePart}
 use Rattle.rec_store.specs.DumpStore.{AreBytes, IsDumpOpening, IsOpeningPart, IsRecordPart, HasShortLength}
 use Rattle.rec_store.specs.declared.dump_opening.DumpHead.{DumpHead}
-use Rattle.opus_io.proofs.BytesLemmas.{AreBytes-take, AreBytes-drop}
+use Rattle.opus_io.proofs.BytesLemmas.{AreBytes-take, AreBytes-drop, AreBytes-right}
 use Rattle.rec_store.proofs.ByteLemmas.{short_of}
 use Rattle.rec_store.proofs.PartLemmas.{dump_head-of, opening_part-head, opening_part-line, record-of, record_part-of, record_part-one, record_part-nil}
-
-AreBytes-behind : (xs ys : List ℕ) → AreBytes (xs ++ ys) → AreBytes ys
-AreBytes-behind [] ys are = are
-AreBytes-behind (x ∷ xs) ys are = AreBytes-behind xs ys are.1
 
 -- ---- the first line
 
@@ -141,7 +137,7 @@ openings x are = go (lines x)
     go (line_part part) = opening_part (opening_part-line x part)
     go (bad_line place bad) = bad_opening place bad
     go (whole_line line rest is parts) =
-        head_behind x line rest is (AreBytes-behind line rest (subst AreBytes parts are)) parts (cases_lt (length rest) 16)
+        head_behind x line rest is (AreBytes-right line rest (subst AreBytes parts are)) parts (cases_lt (length rest) 16)
 
 -- ---- the records
 

@@ -1,5 +1,6 @@
 -- What a job that makes something of each record by itself makes of all.
 use Rattle.std.proofs.Common.{◌≡◌, ◌⊎◌, ◌↔◌, ℕ, ◌+◌, List, [], ◌∷◌, ◌++◌, length, inl, inr, refl, sym, ap, ◌∙◌, subst, append_assoc, append-nil, arith}
+use Rattle.std.specs.List.{AllByRecursion}
 use Rattle.job_loop.specs.Meaning.{Meaning, Run, going, broke, adds, runs, closes, outcome}
 use Rattle.job_loop.specs.declared.input_end.InputEnd.{InputEnd}
 use Rattle.job_loop.specs.declared.input_end.InputEnd.TheVariants as ends
@@ -8,6 +9,20 @@ use Rattle.job_ends.specs.declared.refusal.Refusal.{Refusal}
 use Rattle.job_ends.specs.Refusal.{told, refusal_of}
 use Rattle.job_ends.specs.Each.{Made, writes, refuses, made_step, each_end, each, text_of, texts_from, IsWritten, AreWritten, RefusesWith, FirstRefusedBy, IsUncut}
 use Rattle.job_ends.proofs.RunLemmas.{going-text, going≢broke}
+
+-- all records are so of which each is written so, and the other way round
+
+pub all_written : {R W : Type 0} → (made : ℕ → R → Made W) (Good : R → Type 0)
+    → ((number : ℕ) (r : R) → Good r → IsWritten (made number r)) → (number : ℕ) (rs : List R) → AllByRecursion Good rs
+    → AreWritten made number rs
+all_written made Good one number [] good = tt
+all_written made Good one number (r ∷ rs) good = (one number r good.0, all_written made Good one (number + 1) rs good.1)
+
+pub written_all : {R W : Type 0} → (made : ℕ → R → Made W) (Good : R → Type 0)
+    → ((number : ℕ) (r : R) → IsWritten (made number r) → Good r) → (number : ℕ) (rs : List R) → AreWritten made number rs
+    → AllByRecursion Good rs
+written_all made Good one number [] written = tt
+written_all made Good one number (r ∷ rs) written = (one number r written.0, written_all made Good one (number + 1) rs written.1)
 
 -- what is made of each record, and how a cut is refused
 module _ {R C W : Type 0} (cut : ℕ → C → Refusal W) (made : ℕ → R → Made W) where

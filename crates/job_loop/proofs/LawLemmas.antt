@@ -12,7 +12,7 @@ onward_text : {R K C F : Type 0} → (m : Meaning R K C F) (run : Run K F) (r : 
 onward_text m (going text kept) r = (_, adds_text text (m.step kept r))
 onward_text m (broke text f) r = ([], sym (append-nil text))
 
-runs_text : {R K C F : Type 0} → (m : Meaning R K C F) (run : Run K F) (rs : List R)
+pub runs_text : {R K C F : Type 0} → (m : Meaning R K C F) (run : Run K F) (rs : List R)
     → (c : List ℕ) × (run_text (runs m run rs) ≡ run_text run ++ c)
 runs_text m run [] = ([], sym (append-nil (run_text run)))
 runs_text m run (r ∷ rs) =

@@ -12,17 +12,6 @@ use Rattle.net_jobs.specs.Tell.{missing_of, missing_in}
 
 -- ---- a place behind the others
 
-above_by : (greatest ahead : ℕ) (b : Bool) → nat_le ahead 32768 ≡ b
-    → greatest < (if b then greatest + ahead else greatest + ahead - 65536) + 32768
-above_by greatest ahead true test = omega arith
-above_by greatest ahead false test =
-    let some : 32768 < ahead = search (arith, test) in
-    omega arith
-
-pub place_above : (greatest seq : ℕ) → greatest < place_after greatest seq + 32768
-unfolding place_after
-place_above greatest seq = above_by greatest (ahead_of greatest seq) (nat_le (ahead_of greatest seq) 32768) refl
-
 record IsNear (greatest place : ℕ) : Type 0 where
   pub above : greatest < place + 32768
   pub within : place ≤ greatest + 32768

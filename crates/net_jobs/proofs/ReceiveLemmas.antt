@@ -1,8 +1,7 @@
 -- What the object of recv and replay stands for behind one record more, and when it is closed.
-use Rattle.std.proofs.Common.{◌≡◌, ℕ, ◌+◌, ◌≤◌, ◌^◌, List, [], ◌∷◌, ◌++◌, length, drop, Option, None, Some, unwrap_or, refl, sym, ap, ◌∙◌, subst, arith}
+use Rattle.std.proofs.Common.{◌≡◌, ℕ, ◌+◌, ◌≤◌, ◌^◌, List, [], ◌∷◌, ◌++◌, length, drop, Option, None, Some, unwrap_or, refl, sym, ap, ◌∙◌, arith}
 use Rattle.std.proofs.lemmas.List.{drop_at, drop_all}
 use Rattle.std.proofs.lemmas.List.Sums.{sum_by-append}
-use Rattle.rec_store.specs.declared.dump_item.DumpKind.{DumpKind}
 use Rattle.rtp_ends.specs.declared.event.Event.{Event}
 use Rattle.rtp_ends.specs.declared.event.Arrival.{Arrival}
 use Rattle.rtp_ends.specs.Numbers.{Heard}
@@ -11,7 +10,7 @@ use Rattle.rtp_ends.specs.Receives.{GivesOut, HasArrived}
 use Rattle.job_ends.specs.Refusal.{told}
 use Rattle.net_jobs.specs.declared.receive.ReceiveJob.{ReceiveJob}
 use Rattle.net_jobs.specs.declared.stream.Stream.{Stream}
-use Rattle.net_jobs.specs.Arrive.{RecordSort, arrives, record_sort}
+use Rattle.net_jobs.specs.Arrive.{arrives}
 use Rattle.net_jobs.specs.Tell.{missing_of, missing_in}
 use Rattle.net_jobs.specs.Receive.{Reception, after, chosen_by, counted_arrival, behind}
 use Rattle.net_jobs.proofs.MissingLemmas.{missing_most}
@@ -63,13 +62,6 @@ arrived old new k s x answer is has counts chosen missing = record {
   };
   events = behind-given (certain_events k.heard) (certain_events (k.heard ++ x ∷ [])) new.events.items has.gives;
 }
-
--- the record is of the sort that the object finds
-pub of_sort : (old new : ReceiveJob) (k : Reception) (kind : DumpKind) (bytes : List ℕ) (sort : RecordSort) → ReceiveStands old k
-    → sort ≡ record_sort old.asked old.chosen kind bytes → TookRecord new k (after k sort)
-    → TookRecord new k (after k (record_sort old.asked k.chosen kind bytes))
-of_sort old new k kind bytes sort is same took =
-    subst (λ t. TookRecord new k (after k t)) (same ∙ ap (λ c. record_sort old.asked c kind bytes) is.chosen) took
 
 -- ---- the end
 

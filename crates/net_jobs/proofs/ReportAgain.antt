@@ -75,14 +75,6 @@ placed_behind greatest losses first before (Some v ∷ rs) fits at high few runs
 
 -- ---- that is its order
 
-above_from : (low place : ℕ) (first : RtpFields) (before rs : List (Option PacketValue)) → low < place
-    → AllByRecursion (λ b. low < b.place) (placed_from place first before rs)
-unfolding placed_from
-above_from low place first before [] less = tt
-above_from low place first before (None ∷ rs) less = above_from low (place + 1) first (before ++ None ∷ []) rs (omega arith)
-above_from low place first before (Some v ∷ rs) less =
-    (less, above_from low (place + 1) first (before ++ Some v ∷ []) rs (omega arith))
-
 below_more : (low place : ℕ) (xs : List Placed) (a : Placed) → a.place ≡ place → low ≤ place
     → AllByRecursion (λ b. b.place < low) xs → AllByRecursion (λ b. b.place < place + 1) (xs ++ a ∷ [])
 below_more low place [] a is more all = (omega (arith, is), tt)
@@ -164,5 +156,3 @@ report_again first (Some v ∷ rs) fits runs =
     ap ordered places ∙ in_order (place + 0 + 1) (placed_at place h ∷ []) first (Some v ∷ []) rs (omega arith, tt) in
     ap (λ l. events_text Store (events_of l)) order
     ∙ ap (λ l. demo_record 0 (canonical v) ++ l) (text_again place 0 first (Some v ∷ []) rs runs)
-
--- ---- its records are arrivals

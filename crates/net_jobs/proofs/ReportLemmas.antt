@@ -27,7 +27,7 @@ use Rattle.rtp_ends.proofs.EventLemmas.{events_since-append}
 use Rattle.rtp_ends.proofs.HoldingLemmas.{AreSettled-weaker}
 use Rattle.rtp_ends.proofs.CertainLemmas.{settled-less}
 use Rattle.rtp_ends.proofs.ReceiverLemmas.{order-more}
-use Rattle.rtp_ends.proofs.FrontLemmas.{split, settled-are, certain-stays}
+use Rattle.rtp_ends.proofs.FrontLemmas.{split, settled-are, certain-stays, place_after-above}
 use Rattle.net_jobs.specs.declared.stream.Asked.{Asked}
 use Rattle.net_jobs.specs.declared.counts.Counts.{Counts}
 use Rattle.net_jobs.specs.declared.events.Telling.{Telling}
@@ -38,7 +38,6 @@ use Rattle.net_jobs.specs.Arrive.{RecordSort, passes, arrives, record_sort}
 use Rattle.net_jobs.specs.Tell.{event_text, events_text, missing_in, counts_text}
 use Rattle.net_jobs.specs.Receive.{Reception, begun, counted_passed, counted_arrival, after, behind, told_now, told_last, receive, receive_sort, receive_found, rest_text, capture_refusal, most_records}
 use Rattle.net_jobs.specs.Received.{IsRecord, AreRecords, received_one, received_after, received, report_text}
-use Rattle.net_jobs.proofs.MissingLemmas.{place_above}
 
 -- ---- what was certain stays so with one arrival more
 
@@ -62,7 +61,7 @@ certain-more (h ∷ hs) x =
     let kept = open_of g all in
     let old = settled-are g all in
     let top : g' ≡ max g place = ap greatest_of (placed-more heard x) ∙ greatest_of-more (placed heard) a in
-    let above : g < place + 32768 = place_above g x.seq in
+    let above : g < place + 32768 = place_after-above g x.seq in
     let order : ordered (placed (heard ++ x ∷ [])) ≡ told ++ put a kept =
     order-more heard x place refl ∙ ap (put a) (split g all (ordered-ascends (placed heard)))
     ∙ put-behind a told kept (settled-less g place told above old) in

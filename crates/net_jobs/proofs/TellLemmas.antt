@@ -1,18 +1,17 @@
 -- Texts of events, one after the other, and of many lost records.
-use Rattle.std.proofs.Common.{◌≡◌, ℕ, zero, suc, ◌+◌, ◌*◌, ◌-◌, ◌%◌, ◌<◌, ◌≤◌, ◌^◌, List, [], ◌++◌, Option, Result, length, take, drop, get_or, replicate, sym, ap, ◌∙◌, subst, append-nil, append_assoc, refl, arith}
+use Rattle.std.proofs.Common.{◌≡◌, ℕ, zero, suc, ◌+◌, ◌*◌, ◌-◌, ◌<◌, ◌≤◌, ◌^◌, List, [], ◌++◌, Option, Result, length, take, drop, get_or, replicate, sym, ap, ◌∙◌, subst, append-nil, append_assoc, refl, arith}
 use Rattle.std.specs.Io.KnownBytes.{Appends}
 use Rattle.std.proofs.KnownBytes.{Appends-trans}
 use Rattle.std.proofs.lemmas.List.{take-replicate, drop_more, drop_all}
 use Rattle.std.specs.Result.{OnErr}
 use Rattle.std.proofs.lemmas.Result.{on_err_weaker}
-use Rattle.std.proofs.lemmas.List.Sums.{sum_by-cons}
 use Rattle.job_loop.specs.Telling.{Front}
 use Rattle.job_loop.proofs.RunLemmas.{Front-behind, Front-longer}
-use Rattle.rec_store.specs.DemoStore.{demo_head, demo_record}
+use Rattle.rec_store.specs.DemoStore.{demo_record}
 use Rattle.rtp_ends.specs.declared.event.Event.{Event}
 use Rattle.job_ends.specs.Refusal.{told}
 use Rattle.net_jobs.specs.declared.events.Telling.{Telling}
-use Rattle.net_jobs.specs.Tell.{lost_records, event_text, events_text, missing_of, missing_in}
+use Rattle.net_jobs.specs.Tell.{lost_records, event_text, events_text, missing_in}
 
 -- ---- a text in parts
 
@@ -75,19 +74,6 @@ events_left telling events i d within event is =
     ∙ ap (λ e. event_text telling e ++ events_text telling (drop (i + 1) events)) (sym is)
 
 -- ---- missing numbers
-
-pub missing_left : (events : List Event) (i : ℕ) (d : Event) → i < length events
-    → missing_in (drop i events) ≡ missing_of (get_or events i d) + missing_in (drop (i + 1) events)
-missing_left events i d within =
-    ap missing_in (drop_more events i d within) ∙ sum_by-cons missing_of (get_or events i d) (drop (i + 1) events)
-
-pub told_more : (sum x rest : ℕ) → told (told (sum + x) + rest) ≡ told (sum + (x + rest))
-told_more sum x rest = omega arith
-
--- ---- the head of a record
-
-pub head_fits : (size : ℕ) → demo_head (size % 4294967296) 0 ≡ demo_head size 0
-head_fits size = grind arith
 
 -- nothing is left
 pub told_all : (sum missing : ℕ) (events : List Event) (i : ℕ) → i ≡ length events → sum < 2 ^ 64

@@ -1,5 +1,5 @@
 -- Lengths that a header gives, taken one after another.
-use Rattle.std.proofs.Common.{◌≡◌, ℕ, ◌+◌, ◌-◌, ◌*◌, ◌/◌, ◌%◌, ◌<◌, ◌≤◌, List, [], ◌∷◌, ◌++◌, length, take, sum, set, All, refl, sym, ap, ◌∙◌, subst, arith, append_assoc}
+use Rattle.std.proofs.Common.{◌≡◌, ℕ, ◌+◌, ◌-◌, ◌*◌, ◌/◌, ◌%◌, ◌<◌, ◌≤◌, List, [], ◌∷◌, ◌++◌, length, take, sum, set, refl, sym, ap, ◌∙◌, subst, arith, append_assoc}
 use Rattle.std.specs.List.{flat_map}
 use Rattle.std.proofs.lemmas.List.{append-nil, length_push, take_more_set}
 use Rattle.std.proofs.Math.ListN.{length-set}
@@ -8,29 +8,11 @@ use Rattle.std.proofs.lemmas.List.Elements.{All-push, All-nil}
 use Rattle.opus_flen.specs.FrameLength.{length_bytes}
 use Rattle.opus_flen.proofs.LengthLemmas.{length_bytes-short, length_bytes-long}
 use Rattle.opus_packet.specs.Value.{max_frame}
-use Rattle.opus_packet.proofs.LengthsReadLemmas.{lengths_read-spelled}
 use Rattle.opus_packet.proofs.CutLemmas.{sum-push}
-use Rattle.opus_packet.specs.Spelled.{list_or_none, lengths_in, SpellsLengths}
+use Rattle.opus_packet.specs.Spelled.{lengths_in, SpellsLengths}
+use Rattle.opus_packet.proofs.SpelledLemmas.{spells-lengths, SpellsLengths-from}
 use Rattle.opus_feed.specs.Heads.{spelled_in, HasLengths}
 use Rattle.opus_feed.specs.declared.head.Head.{Head}
-
--- what some lengths spell, they are read from
-pub lengths_in-spelled : (count : ℕ) (bytes ns : List ℕ) → bytes ≡ flat_map length_bytes ns
-    → length ns ≡ count → lengths_in count bytes ≡ ns
-lengths_in-spelled count bytes ns own counted =
-    let whole : bytes ≡ flat_map length_bytes ns ++ [] = own ∙ sym (append-nil (flat_map length_bytes ns)) in
-    ap (λ k. lengths_in k bytes) (sym counted) ∙ ap (λ bs. lengths_in (length ns) bs) whole
-    ∙ ap list_or_none (lengths_read-spelled ns [])
-
-pub spells_from : (count : ℕ) (bytes ns : List ℕ) → bytes ≡ flat_map length_bytes ns
-    → length ns ≡ count → All (λ n. n ≤ max_frame) ns → SpellsLengths count bytes
-spells_from count bytes ns own counted each =
-    let same = sym (lengths_in-spelled count bytes ns own counted) in
-    record {
-      own = own ∙ ap (λ l. flat_map length_bytes l) same;
-      counted = sym (ap (λ (l : List ℕ). length l) same) ∙ counted;
-      each = subst (All (λ n. n ≤ max_frame)) same each;
-    }
 
 -- a length more
 pub record SpellsMore (done : ℕ) (bytes : List ℕ) (n : ℕ) : Type 0 where
@@ -47,9 +29,9 @@ spells_more done bytes n s fits =
     ∙ sym (flat_map-append length_bytes ns (n ∷ [])) in
     let counted : length (ns ++ n ∷ []) ≡ done + 1 = length_push ns n ∙ ap (λ k. k + 1) s.counted in
     record {
-      spells = spells_from (done + 1) (bytes ++ length_bytes n) (ns ++ n ∷ []) own counted
+      spells = SpellsLengths-from (done + 1) (bytes ++ length_bytes n) (ns ++ n ∷ []) own counted
           (All-push (λ m. m ≤ max_frame) ns n s.each fits);
-      lengths_are = lengths_in-spelled (done + 1) (bytes ++ length_bytes n) (ns ++ n ∷ []) own counted;
+      lengths_are = spells-lengths (done + 1) (bytes ++ length_bytes n) (ns ++ n ∷ []) own counted;
     }
 
 pub has_more : (h k : Head) (done n : ℕ) → HasLengths done h → n ≤ max_frame
@@ -71,7 +53,7 @@ pub has_none : (h : Head) → h.spelled ≡ 0 → h.sum ≡ 0 → HasLengths 0 h
 has_none h none no_sum =
     let empty : spelled_in h ≡ [] = ap (λ n. take n h.lengths) none in
     record {
-      spells = spells_from 0 (spelled_in h) [] empty refl (All-nil (λ n. n ≤ max_frame));
+      spells = SpellsLengths-from 0 (spelled_in h) [] empty refl (All-nil (λ n. n ≤ max_frame));
       sum_is = no_sum;
       short = omega arith;
       low = omega arith;

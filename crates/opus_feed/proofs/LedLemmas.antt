@@ -1,17 +1,14 @@
 -- What stands before the lengths of a header.
-use Rattle.std.proofs.Common.{◌≡◌, ℕ, ◌+◌, ◌-◌, ◌*◌, ◌^◌, ◌<◌, ◌≤◌, Bool, true, false, [], ◌∷◌, ◌++◌, replicate, nat_lt, refl, sym, ap, ◌∙◌, subst, arith, ne_eqb}
+use Rattle.std.proofs.Common.{◌≡◌, ℕ, ◌+◌, ◌-◌, ◌*◌, ◌^◌, ◌<◌, ◌≤◌, Bool, true, false, [], ◌∷◌, ◌++◌, replicate, refl, sym, ap, ◌∙◌, subst, arith, ne_eqb}
 use Rattle.std.proofs.lemmas.List.{replicate-append-replicate}
-use Rattle.opus_toc.specs.Toc.{config_of, stereo_of, code_of, toc_byte}
+use Rattle.opus_toc.specs.Toc.{config_of, code_of}
 use Rattle.opus_toc.specs.Configuration.{samples_of}
 use Rattle.opus_flen.specs.PaddingLength.{most_full}
-use Rattle.opus_flen.proofs.PaddingLemmas.{padding_bytes-parts}
 use Rattle.opus_packet.specs.declared.shape.Shape.{Shape}
 use Rattle.opus_packet.specs.Value.{max_duration}
-use Rattle.opus_packet.specs.Header.{count_byte, padding_length, count_and_padding}
-use Rattle.opus_packet.specs.HeaderRead.{shape_of, vbr_of, padded_of, frames_of, is_count}
-use Rattle.opus_packet.proofs.FirstBytes.{toc_byte-parts, count_of, count_of-parts}
-use Rattle.opus_packet.proofs.HeaderLemmas.{counts, frames-most, lasts_two, padding_length-some}
-use Rattle.opus_feed.specs.Heads.{SuitsCount, IsCounted, IsPadded, IsLed, IsSized, IsGiving, HasLengths, gives, given_count, lead}
+use Rattle.opus_packet.specs.HeaderRead.{shape_of, vbr_of, frames_of, is_count}
+use Rattle.opus_packet.proofs.HeaderLemmas.{counts, frames-most, lasts_two}
+use Rattle.opus_feed.specs.Heads.{SuitsCount, IsCounted, IsPadded, IsLed, IsSized, IsGiving, HasLengths, gives, given_count}
 use Rattle.opus_feed.specs.declared.head.Head.{Head}
 use Rattle.opus_feed.proofs.GivenLemmas.{has_none}
 
@@ -75,28 +72,6 @@ gives_vbr h code vbr = rw (code, vbr)
 -- a byte of the padding length more
 pub full_more : (full : ℕ) → replicate {A = ℕ} (full + 1) 255 ≡ replicate {A = ℕ} full 255 ++ 255 ∷ []
 full_more full = sym (replicate-append-replicate full 1 255)
-
-pub full_ends : (full byte : ℕ) → byte < 255
-    → replicate full 255 ++ byte ∷ [] ≡ padding_length (255 * full + byte + 1)
-full_ends full byte below =
-    sym (padding_bytes-parts full byte below)
-    ∙ sym (padding_length-some (255 * full + byte + 1) (omega arith))
-
--- the bytes before the lengths, of code 3
-pub lead_counted : (h : Head) → IsCounted h → padded_of h.count ≡ nat_lt 0 h.shape.pad
-    → lead h ≡ h.first ∷ h.count ∷ padding_length h.shape.pad
-lead_counted h is padded =
-    let byte = is.count in
-    let made : count_byte h.shape h.frames ≡ h.count =
-    ap (λ b. count_of b (nat_lt 0 h.shape.pad) h.frames) is.shape_vbr
-    ∙ ap (λ b. count_of (vbr_of h.count) b h.frames) (sym padded)
-    ∙ ap (λ n. count_of (vbr_of h.count) (padded_of h.count) n) is.frames_are
-    ∙ count_of-parts h.count byte in
-    let first : toc_byte (config_of h.first) (stereo_of h.first) h.shape.code ≡ h.first =
-    toc_byte-parts h.first h.shape.code (is.code ∙ sym is.shape_code) in
-    let behind : count_and_padding h.shape h.frames ≡ h.count ∷ padding_length h.shape.pad =
-    rw is.shape_code (ap (λ n. n ∷ padding_length h.shape.pad) made) in
-    ap (λ n. n ∷ count_and_padding h.shape h.frames) first ∙ ap (λ bs. h.first ∷ bs) behind
 
 counted_same : (h k : Head) → IsCounted h → k.first ≡ h.first → k.count ≡ h.count → k.shape ≡ h.shape
     → k.frames ≡ h.frames → k.spelled ≡ h.spelled → k.sum ≡ h.sum → IsCounted k

@@ -1,5 +1,5 @@
 -- Lemmas on frame lengths: their spelling, and what the front of some bytes says.
-use Rattle.std.proofs.Common.{◌≡◌, ℕ, ◌+◌, ◌-◌, ◌*◌, ◌/◌, ◌%◌, ◌<◌, ◌≤◌, ◌⊎◌, List, [], ◌∷◌, ◌++◌, length, get_or, drop, refl, sym, ap, ◌∙◌, subst, inl, inr, ⊎_elim, take-append-drop, lt-ltb, le-ltb, arith}
+use Rattle.std.proofs.Common.{◌≡◌, ℕ, ◌+◌, ◌-◌, ◌*◌, ◌/◌, ◌%◌, ◌<◌, ◌≤◌, ◌⊎◌, List, [], ◌∷◌, ◌++◌, length, get_or, drop, refl, sym, ap, ◌∙◌, subst, ⊎_elim, take-append-drop, lt-ltb, le-ltb, arith}
 use Rattle.std.proofs.lemmas.Bool.{cases_lt}
 use Rattle.opus_flen.specs.FrameLength.{length_bytes, BeginsWithLength, length_read}
 use Rattle.opus_flen.specs.declared.frame_length.LenRead.{LenRead}
@@ -129,32 +129,6 @@ pub length_read-split : (bs : List ℕ) (n u : ℕ) → ((i : ℕ) → get_or bs
 length_read-split bs n u bytes read =
     let found = length_read-sound bs n u bytes read in
     sym (rw (← found.0.spelled) (take-append-drop u bs))
-
--- bytes after a whole length change nothing
-pub length_read-more : (bs : List ℕ) (n u : ℕ) → length_read bs ≡ Len n u → (more : List ℕ)
-    → length_read (bs ++ more) ≡ Len n u
-length_read-more [] n u read more = cc
-length_read-more (first ∷ []) n u read more =
-    ⊎_elim
-    (λ p. length_read-short first more p ∙ sym (length_read-short first [] p) ∙ read)
-    (λ p. let cut = length_read-first_alone first p in cc) (cases_lt first 252)
-length_read-more (first ∷ second ∷ bs) n u read more =
-    ⊎_elim
-    (λ p. length_read-short first (second ∷ (bs ++ more)) p
-    ∙ sym (length_read-short first (second ∷ bs) p) ∙ read)
-    (λ p. length_read-long first second (bs ++ more) p
-    ∙ sym (length_read-long first second bs p) ∙ read) (cases_lt first 252)
-
--- a cut length is no byte, or one of 252 or more
-pub length_read-cut : (bs : List ℕ) → length_read bs ≡ Cut
-    → (bs ≡ []) ⊎ ((first : ℕ) × (252 ≤ first) × (bs ≡ first ∷ []))
-length_read-cut [] read = inl refl
-length_read-cut (first ∷ []) read =
-    ⊎_elim (λ p. let short = length_read-short first [] p in cc)
-    (λ p. inr (first, p, refl)) (cases_lt first 252)
-length_read-cut (first ∷ second ∷ bs) read =
-    ⊎_elim (λ p. let short = length_read-short first (second ∷ bs) p in cc)
-    (λ p. let long = length_read-long first second bs p in cc) (cases_lt first 252)
 
 -- one byte 0 more completes a cut length
 pub length_read-completed : (bs : List ℕ) → ((i : ℕ) → get_or bs i 0 < 256) → length_read bs ≡ Cut

@@ -1,10 +1,10 @@
 -- Padding lengths with more bytes behind them, completed by a byte 0, and cut before their end.
 use Rattle.std.proofs.Common.{◌≡◌, ℕ, ◌+◌, ◌*◌, ◌<◌, ◌≤◌, min, List, [], ◌∷◌, ◌++◌, length, get_or, take, drop, refl, sym, ap, ◌∙◌, length-append, length-take, take-append-drop, arith}
-use Rattle.std.proofs.lemmas.List.{get_or_append_left, get_or_at}
-use Rattle.opus_flen.specs.PaddingLength.{padding_limit, padding_bytes, full_bytes, most_full, padding_read}
+use Rattle.std.proofs.lemmas.List.{get_or_at}
+use Rattle.opus_flen.specs.PaddingLength.{padding_bytes, full_bytes, most_full, padding_read}
 use Rattle.opus_flen.specs.declared.padding_length.PadRead.TheVariants.{Pad, Cut, Limit}
-use Rattle.opus_flen.proofs.PaddingLemmas.{most_full-is, full_bytes-le, full_bytes-take, full_bytes-append_ended, full_bytes-append_all, full_bytes-append-le}
-use Rattle.opus_flen.proofs.PaddingReadLemmas.{IsPad, IsCut, IsLimit, padding_read-says, padding_read-from_pad, padding_read-from_cut, padding_read-from_limit, padding_read-sound}
+use Rattle.opus_flen.proofs.PaddingLemmas.{full_bytes-le, full_bytes-take, full_bytes-append_all, full_bytes-append-le}
+use Rattle.opus_flen.proofs.PaddingReadLemmas.{IsCut, IsLimit, padding_read-says, padding_read-from_pad, padding_read-from_cut, padding_read-from_limit, padding_read-sound}
 
 -- the bytes that follow a padding length
 pub padding_read-split : (bs : List ℕ) (total used : ℕ) → ((i : ℕ) → get_or bs i 0 < 256)
@@ -12,26 +12,6 @@ pub padding_read-split : (bs : List ℕ) (total used : ℕ) → ((i : ℕ) → g
 padding_read-split bs total used bytes read =
     let found = padding_read-sound bs total used bytes read in
     sym (rw (← found.spelled) (take-append-drop used bs))
-
--- bytes after a whole padding length change nothing
-pub padding_read-more : (bs : List ℕ) (total used : ℕ) → padding_read bs ≡ Pad total used
-    → (more : List ℕ) → padding_read (bs ++ more) ≡ Pad total used
-padding_read-more bs total used read more =
-    let pad : IsPad bs total used = padding_read-says bs (Pad total used) read in
-    let within = pad.within in
-    let ended = pad.ended in
-    let front = full_bytes-append_ended bs more ended in
-    let size = length-append bs more in
-    let next : get_or (bs ++ more) (full_bytes bs) 0 ≡ get_or bs (full_bytes bs) 0 =
-    get_or_append_left bs more 0 (full_bytes bs) ended in
-    padding_read-from_pad (bs ++ more) total used
-    (record {
-      within = omega arith;
-      ended = omega arith;
-      total_is = pad.total_is ∙ ap (λ n. 255 * full_bytes bs + n + 1) (sym next)
-          ∙ ap (λ n. 255 * n + get_or (bs ++ more) n 0 + 1) (sym front);
-      used_is = pad.used_is ∙ ap (λ n. n + 1) (sym front);
-    })
 
 -- bytes after too many bytes 255 change nothing
 pub padding_read-limit_more : (bs : List ℕ) (place : ℕ) → padding_read bs ≡ Limit place
@@ -63,15 +43,6 @@ padding_read-completed bs read =
       used_is = omega arith;
     })
 
--- the total of a cut padding length that a byte 0 completes is within the limit
-pub padding_read-completed_fits : (bs : List ℕ) → padding_read bs ≡ Cut
-    → 255 * length bs + 1 < padding_limit
-padding_read-completed_fits bs read =
-    let cut : IsCut bs = padding_read-says bs Cut read in
-    let within = cut.within in
-    let limit = most_full-is in
-    omega arith
-
 -- fronts
 
 -- a front that ends before the padding length does is a cut one
@@ -82,15 +53,6 @@ padding_read-front bs k within front =
     let whole = full_bytes-le bs in
     let size : length (take k bs) ≡ min k (length bs) = length-take k bs in
     padding_read-from_cut (take k bs) (record { all = omega arith; within = omega arith })
-
--- a padding length that was read is cut before its last byte
-pub padding_read-before_end : (bs : List ℕ) (total used k : ℕ) → padding_read bs ≡ Pad total used
-    → k < used → padding_read (take k bs) ≡ Cut
-padding_read-before_end bs total used k read before =
-    let pad : IsPad bs total used = padding_read-says bs (Pad total used) read in
-    let within = pad.within in
-    let used_is = pad.used_is in
-    padding_read-front bs k (omega arith) (omega arith)
 
 -- of too many bytes 255 the first ones tell, and one fewer do not
 pub padding_read-limit_place : (bs : List ℕ) (place : ℕ) → padding_read bs ≡ Limit place

@@ -1,7 +1,7 @@
 -- Lemmas on padding lengths: the bytes 255 at the front, the spelling of a total, and the cases of reading one.
 use Rattle.std.proofs.Common.{◌≡◌, ℕ, zero, suc, ◌+◌, ◌-◌, ◌*◌, ◌/◌, ◌%◌, ◌<◌, ◌≤◌, min, List, [], ◌∷◌, ◌++◌, length, get_or, take, replicate, refl, sym, ap, ◌∙◌, ⊎_elim, append_assoc, length-append, lt-ltb, le-ltb, eq-eqb, ne_eqb, arith}
 use Rattle.std.proofs.lemmas.Bool.{cases_lt, cases_eq}
-use Rattle.std.proofs.lemmas.List.{length-replicate, append_cancel_left, get_or-take, get_or-replicate}
+use Rattle.std.proofs.lemmas.List.{length-replicate, get_or-take, get_or-replicate}
 use Rattle.opus_flen.specs.PaddingLength.{padding_limit, SpellsPadding, padding_bytes, full_bytes, most_full, padding_read}
 use Rattle.opus_flen.specs.declared.padding_length.PadRead.TheVariants.{Pad, Cut, Limit}
 
@@ -149,31 +149,6 @@ pub padding_bytes-front : (total : ℕ) (rest : List ℕ)
     ≡ replicate ((total - 1) / 255) 255 ++ (total - 1) % 255 ∷ rest
 padding_bytes-front total rest =
     append_assoc (replicate ((total - 1) / 255) 255) ((total - 1) % 255 ∷ []) rest
-
-pub full_bytes-padding_bytes : (total : ℕ) (rest : List ℕ)
-    → full_bytes (padding_bytes total ++ rest) ≡ (total - 1) / 255
-full_bytes-padding_bytes total rest =
-    ap full_bytes (padding_bytes-front total rest)
-    ∙ full_bytes-spelled ((total - 1) / 255) ((total - 1) % 255) rest (omega arith)
-
-unique_by : (k j a b : ℕ) (xs ys : List ℕ) → a < 255 → b < 255
-    → replicate k 255 ++ a ∷ xs ≡ replicate j 255 ++ b ∷ ys → (k ≡ j) × (a ≡ b) × (xs ≡ ys)
-unique_by k j a b xs ys p q e =
-    let counts : k ≡ j = sym (full_bytes-spelled k a xs p) ∙ ap full_bytes e ∙ full_bytes-spelled j b ys q in
-    let same : replicate k 255 ++ a ∷ xs ≡ replicate k 255 ++ b ∷ ys =
-    e ∙ ap (λ n. replicate n 255 ++ b ∷ ys) (sym counts) in
-    let tails : a ∷ xs ≡ b ∷ ys = append_cancel_left (replicate k 255) (a ∷ xs) (b ∷ ys) same in
-    (counts, cc, cc)
-
--- two totals that begin the same bytes are one
-pub padding_bytes-unique : (m n : ℕ) (xs ys : List ℕ) → 1 ≤ m → 1 ≤ n
-    → padding_bytes m ++ xs ≡ padding_bytes n ++ ys → (m ≡ n) × (xs ≡ ys)
-padding_bytes-unique m n xs ys p q e =
-    let both = unique_by ((m - 1) / 255) ((n - 1) / 255) ((m - 1) % 255) ((n - 1) % 255) xs ys
-    (omega arith) (omega arith) (sym (padding_bytes-front m xs) ∙ e ∙ padding_bytes-front n ys) in
-    let counts : (m - 1) / 255 ≡ (n - 1) / 255 = both.0 in
-    let lasts : (m - 1) % 255 ≡ (n - 1) % 255 = both.1 in
-    (omega arith, both.2)
 
 -- a total has one spelling
 pub SpellsPadding-is : (total : ℕ) (l : List ℕ) → SpellsPadding total l → l ≡ padding_bytes total

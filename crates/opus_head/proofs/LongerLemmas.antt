@@ -7,6 +7,7 @@ use Rattle.std.proofs.Math.Nat.{mul-le-mul}
 use Rattle.std.proofs.lemmas.List.{take-append-le, drop-append-le}
 use Rattle.std.proofs.lemmas.List.Sums.{common_prefix_len-le}
 use Rattle.std.proofs.lemmas.Bool.{leb-true, eqb-true, lt-ltb, le-leb, eq-eqb, and_parts, or_cases, cases_eq, both_ways}
+use Rattle.opus_io.proofs.BytesLemmas.{AreBytes-at}
 use Rattle.opus_head.specs.ChannelCount.{is_channel_count, is_ambisonic_count, ambisonic_counts}
 use Rattle.opus_head.specs.HeadValue.{AreBytes, is_map_byte}
 use Rattle.opus_head.specs.HeadBytes.{magic}
@@ -58,7 +59,7 @@ pub record SameFront (b c : List ℕ) : Type 0 where
 
 pub front-of : (b more : List ℕ) → AreBytes b → 115792 ≤ length b → SameFront b (b ++ more)
 front-of b more are long =
-    let count : channels_in b < 256 = are 9 in
+    let count : channels_in b < 256 = AreBytes-at b are 9 in
     record {
       begins = front-append magic b more (omega arith);
       version = get_or-append b more 0 8 (omega arith);
@@ -152,7 +153,7 @@ size-by b are front table (inr some) (inl matrix) =
 size-by b are front table (inr some) (inr no_matrix) =
     let whole = head_size-table b some in
     let mapping = mapping_size-map b no_matrix in
-    let count = are 9 in
+    let count = AreBytes-at b are 9 in
     omega arith
 
 pub head_size-same : (b c : List ℕ) → SameFront b c → head_size c ≡ head_size b

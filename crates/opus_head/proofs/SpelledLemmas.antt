@@ -1,13 +1,13 @@
 -- Bytes in which no check fails are the spelling of what they say.
-use Rattle.std.proofs.Common.{◌≡◌, ◌≢◌, ℕ, ◌+◌, ◌*◌, ◌-◌, ◌≤◌, ◌<◌, true, ◌==◌, List, [], ◌∷◌, ◌++◌, length, slice_index, take, drop, length-take, length-drop, append_assoc, add-one, refl, sym, ap, ◌∙◌, subst, ⊎_elim, ◌⊎◌, inl, inr, arith}
+use Rattle.std.proofs.Common.{◌≡◌, ◌≢◌, ℕ, ◌+◌, ◌*◌, ◌-◌, ◌≤◌, true, ◌==◌, List, [], ◌∷◌, ◌++◌, length, take, drop, length-take, length-drop, append_assoc, refl, sym, ap, ◌∙◌, subst, ⊎_elim, ◌⊎◌, inl, inr, arith}
 use Rattle.std.specs.Int.{w16, w32, to_le_bytes, cast_signed, cast_unsigned}
 use Rattle.std.specs.List.{slice_range, common_prefix_len}
-use Rattle.std.proofs.Math.Seq.{drop-cons}
 use Rattle.std.proofs.Math.Facts.{sfits_to_z, Fits-of_lt}
 use Rattle.std.proofs.lemmas.Int.{of_z-to_z}
-use Rattle.std.proofs.lemmas.List.{take-append-drop, drop-drop, get_or-drop, get_or-take, drop_all, get_or_past}
-use Rattle.std.proofs.lemmas.Bool.{eqb-true, eq-eqb, ne_eqb, cases_eq, cases_Bool, cases_lt, cond-true, cond-false}
+use Rattle.std.proofs.lemmas.List.{take-append-drop, drop-drop, drop_all}
+use Rattle.std.proofs.lemmas.Bool.{eqb-true, eq-eqb, ne_eqb, cases_eq, cases_Bool, cond-true, cond-false}
 use Rattle.byteorder.specs.Endian.{little_number}
+use Rattle.opus_io.proofs.BytesLemmas.{AreBytes-at, AreBytes-take, AreBytes-drop, drop-byte}
 use Rattle.opus_head.specs.HeadValue.{AreBytes, is_map_byte, IsTable}
 use Rattle.opus_head.specs.HeadBytes.{magic, table_bytes, front_bytes, IsOpusHead}
 use Rattle.opus_head.specs.HeadFault.{channels_in, family_in, streams_in, coupled_in, decoded_in, mapping_size, head_size, magic_len}
@@ -19,15 +19,6 @@ use Rattle.opus_head.proofs.NoFaultLemmas.{NoFault, head_size-plain, head_size-t
 use Rattle.opus_head.proofs.NumberLemmas.{to_le_bytes-two, to_le_bytes-four, little_number-two, little_number-four}
 
 -- parts of bytes are bytes
-
-pub AreBytes-drop : (n : ℕ) (xs : List ℕ) → AreBytes xs → AreBytes (drop n xs)
-AreBytes-drop n xs bytes i = rw (get_or-drop n xs i 0) (bytes (n + i))
-
-pub AreBytes-take : (n : ℕ) (xs : List ℕ) → AreBytes xs → AreBytes (take n xs)
-AreBytes-take n xs bytes i =
-    ⊎_elim (λ (within : i < n). rw (get_or-take n xs i 0 within) (bytes i))
-    (λ (behind : n ≤ i). rw (get_or_past (take n xs) i 0 (omega (arith, length-take n xs))) (omega arith))
-    (cases_lt i n)
 
 -- the first bytes, where they are all those of a list
 
@@ -45,9 +36,6 @@ front-same (x ∷ xs) (y ∷ ys) e =
     (cases_Bool (x == y))
 
 -- a byte, and a number, in front of what follows
-
-drop-byte : (n : ℕ) (xs : List ℕ) → n < length xs → drop n xs ≡ slice_index xs n ∷ drop (n + 1) xs
-drop-byte n xs within = rw (add-one n) (drop-cons xs n 0 within)
 
 drop-two : (n : ℕ) (xs : List ℕ) → n + 2 ≤ length xs → AreBytes xs
     → drop n xs ≡ to_le_bytes w16 (little_number 2 (drop n xs)) ++ drop (n + 2) xs
@@ -178,12 +166,12 @@ head_in-spelled bytes is are =
       value = record {
         version = is.version;
         some = is.some;
-        fit = are 9;
+        fit = AreBytes-at bytes are 9;
         count = is.count;
         pre_skip = little_number-two (drop 10 bytes) (AreBytes-drop 10 bytes are);
         rate = little_number-four (drop 12 bytes) (AreBytes-drop 12 bytes are);
         gain = sfits_to_z (Fits-of_lt pair);
-        family = are 18;
+        family = AreBytes-at bytes are 18;
         table = rest.fits;
         plain = λ one. drop_all (head_size bytes) bytes (is.plain one);
         extra = AreBytes-drop (head_size bytes) bytes are;

@@ -1,5 +1,6 @@
 -- What an OpusHead says, and what it may say (RFC 7845, 5.1; RFC 8486).
-use Rattle.std.specs.Prelude.{◌≡◌, ◌≢◌, ◌≤◌, ◌<◌, ℕ, ◌+◌, ◌*◌, ◌^◌, ℤ, Bool, true, ◌==◌, ◌||◌, nat_lt, List, [], length, slice_index, FitsSigned}
+pub use Rattle.opus_io.specs.Bytes.{AreBytes}
+use Rattle.std.specs.Prelude.{◌≡◌, ◌≢◌, ◌≤◌, ◌<◌, ℕ, ◌+◌, ◌*◌, ◌^◌, ℤ, Bool, true, ◌==◌, ◌||◌, nat_lt, List, [], length, FitsSigned}
 use Rattle.std.specs.List.{list_all}
 use Rattle.std.specs.Int.{w16}
 use Rattle.opus_head.specs.ChannelCount.{is_channel_count}
@@ -16,9 +17,6 @@ pub record HeadValue : Type 0 where
   pub family : ℕ
   pub table : Table
   pub extra : List ℕ
-
-abbrev pub AreBytes : List ℕ → Type 0
-AreBytes bytes = (i : ℕ) → slice_index bytes i < 256
 
 -- streams, and how many of them are coupled: each coupled one is decoded to two channels
 pub record IsStreamCount (streams coupled : ℕ) : Type 0 where

@@ -1,5 +1,6 @@
 -- Lemmas on lists of bytes.
-use Rattle.std.proofs.Common.{ℕ, zero, suc, ◌<◌, List, [], ◌∷◌, ◌++◌, get_or, take, drop, replicate, arith}
+use Rattle.std.proofs.Common.{◌≡◌, ℕ, zero, suc, ◌+◌, ◌<◌, List, [], ◌∷◌, ◌++◌, length, get_or, slice_index, take, drop, replicate, add-one, arith}
+use Rattle.std.proofs.Math.Seq.{drop-cons}
 use Rattle.opus_io.specs.Bytes.{AreBytes}
 
 pub AreBytes-at : (bs : List ℕ) → AreBytes bs → (i : ℕ) → get_or bs i 0 < 256
@@ -36,3 +37,7 @@ AreBytes-drop (suc n) (x ∷ xs) p = AreBytes-drop n xs p.1
 pub AreBytes-zeros : (n : ℕ) → AreBytes (replicate n 0)
 AreBytes-zeros zero = tt
 AreBytes-zeros (suc n) = (omega arith, AreBytes-zeros n)
+
+-- the byte at n, and the bytes behind it
+pub drop-byte : (n : ℕ) (xs : List ℕ) → n < length xs → drop n xs ≡ slice_index xs n ∷ drop (n + 1) xs
+drop-byte n xs within = rw (add-one n) (drop-cons xs n 0 within)

@@ -8,10 +8,6 @@ use Rattle.opus_flen.specs.FrameLength.{length_bytes}
 use Rattle.opus_make.specs.Written.{frame_bytes, frames_from}
 use Rattle.opus_make.specs.Ramp.{ramp_bytes}
 
-pub length-ramp : length ramp_bytes ≡ 347
-unfolding ramp_bytes
-length-ramp = length-map-range_with_len (λ i. i % 256) 0 347
-
 -- a frame is a part of the ramp
 pub frame_bytes-cut : (j size : ℕ) → j + size ≤ 347 → take size (drop j ramp_bytes) ≡ frame_bytes j size
 unfolding ramp_bytes

@@ -11,6 +11,7 @@ use Rattle.opus_feed.specs.declared.step.Step.TheVariants.{More}
 use Rattle.opus_feed.specs.Tails.{tail_kept}
 use Rattle.opus_feed.specs.Feeds.{Stands, Ended}
 use Rattle.opus_feed.specs.Answers.{Answers, Finishes, IsRead}
+use Rattle.opus_feed.proofs.ReadingLemmas.{reading_answer}
 use Rattle.opus_multi.specs.declared.fault.MultiFault.{MultiFault}
 use Rattle.opus_multi.specs.declared.fault.MultiFault.TheVariants.{Stream, Unequal, NoMemory}
 use Rattle.opus_multi.specs.declared.multi_feed.MultiFeed.{MultiFeed}
@@ -26,7 +27,7 @@ use Rattle.opus_multi.specs.MultiStands.{Reads, HasBroken}
 use Rattle.opus_multi.specs.MultiAnswers.{IsSomeMultistream}
 use Rattle.opus_multi.specs.MultiTurns.{SameChoices, HasLast, LastReads, EndReads}
 use Rattle.opus_multi.proofs.ReadLemmas.{lt_or_ge, framing_more, framing_past, told_one, told_other, unequal_within, length-durations}
-use Rattle.opus_multi.proofs.TurnLemmas.{reading_answer, count_parts, parts_push, told_push}
+use Rattle.opus_multi.proofs.TurnLemmas.{count_parts, parts_push, told_push}
 
 -- the stream that has begun doesn't read
 pub ends_broken : (old new : MultiFeed) (k : ℕ) (f : Fault) (bytes : List ℕ) → k ≡ length old.parts.items

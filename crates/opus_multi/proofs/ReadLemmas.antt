@@ -13,7 +13,7 @@ use Rattle.opus_self.specs.HasSelfTail.{HasSelfTail}
 use Rattle.opus_self.specs.BecomesSelf.{BeginsWithNone}
 use Rattle.opus_feed.specs.declared.framing.Framing.TheVariants.{Whole, SelfDelimited}
 use Rattle.opus_multi.specs.declared.durations.Durations.{Durations}
-use Rattle.opus_multi.specs.Streams.{SpelledStream, BeginsWithStream, AreStreams}
+use Rattle.opus_multi.specs.Streams.{SpelledStream, AreStreams}
 use Rattle.opus_multi.specs.Durations.{HaveOneDuration, IsUnequalAt}
 use Rattle.opus_multi.specs.Told.{Told, Says}
 use Rattle.opus_multi.specs.Multistream.{durations_of}
@@ -69,12 +69,6 @@ unequal_within ds k u =
     omega (arith, ap length u.are, length-append (replicate k u.first) (u.other ∷ u.rest), length-replicate k u.first)
 
 -- one stream
-
--- a packet that was read from the front of the rest
-pub begins_read : (p : PacketRead) (used : ℕ) (rest : List ℕ) → used ≤ length rest → p.size ≡ used
-    → (h : HasSelfTail p (take used rest))
-    → BeginsWithStream (record { value = p.value; shape = p.shape; size = used; tail = h.0 }) rest
-begins_read p used rest within size h = record { within = within; spelled = h.1 }
 
 pub read_more : (k used : ℕ) (bytes rest : List ℕ) (old new : Durations) (packets : List PacketRead) (p : PacketRead)
     → used ≤ length rest → p.size ≡ used → HasSelfTail p (take used rest)

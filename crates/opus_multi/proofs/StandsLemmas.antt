@@ -1,5 +1,5 @@
 -- What a feed of multistream packets stands for says of the bytes and of its parts.
-use Rattle.std.proofs.Common.{◌≡◌, ℕ, ◌+◌, ◌<◌, List, [], ◌∷◌, ◌++◌, length, ap, sym, subst, ◌∙◌, arith, length-append}
+use Rattle.std.proofs.Common.{ℕ, ◌+◌, ◌<◌, List, [], ◌++◌, length, sym, subst, ◌∙◌}
 use Rattle.std.proofs.lemmas.List.{append-nil, append_assoc}
 use Rattle.opus_packet.specs.declared.fault.Fault.{Fault}
 use Rattle.opus_packet.specs.PacketPrefix.{AreBytes}
@@ -10,6 +10,7 @@ use Rattle.opus_feed.specs.declared.framing.Framing.TheVariants.{Whole, SelfDeli
 use Rattle.opus_feed.specs.declared.step.Step.TheVariants.{More}
 use Rattle.opus_feed.specs.Packets.{IsNone, IsPrefix, Refuses}
 use Rattle.opus_feed.specs.Answers.{Answers}
+use Rattle.opus_feed.proofs.ReadingLemmas.{reading_answer}
 use Rattle.opus_multi.specs.declared.fault.MultiFault.TheVariants.{Stream, Unequal, NoMemory}
 use Rattle.opus_multi.specs.declared.multi_place.MultiPlace.{MultiPlace}
 use Rattle.opus_multi.specs.declared.multi_place.MultiPlace.TheVariants.{Reading, Done, Failed}
@@ -17,17 +18,16 @@ use Rattle.opus_multi.specs.declared.multi_feed.MultiFeed.{MultiFeed}
 use Rattle.opus_multi.specs.MultistreamFault.{framing_of}
 use Rattle.opus_multi.specs.MultistreamPrefix.{IsMultistreamPrefix}
 use Rattle.opus_multi.specs.StreamParts.{AreFirstParts}
-use Rattle.opus_multi.specs.MultiStands.{Reads, HasRefused, HasBroken, MultiStandsAt, MultiStands, MultiEndedAt}
-use Rattle.opus_multi.specs.MultiAnswers.{RefusesStream, EndedParts}
+use Rattle.opus_multi.specs.MultiStands.{Reads, HasRefused, HasBroken, MultiStandsAt, MultiStands}
+use Rattle.opus_multi.specs.MultiAnswers.{RefusesStream}
 use Rattle.opus_multi.proofs.StreamsLemmas.{stand_more, stand_bytes}
 use Rattle.opus_multi.proofs.ReadLemmas.{framing_more}
 use Rattle.opus_multi.proofs.OnlyLemmas.{broken_none}
 use Rattle.opus_multi.proofs.PrefixLemmas.{prefix-becomes}
-use Rattle.opus_multi.proofs.TurnLemmas.{reading_answer}
 
 -- more bytes can come
 
-prefix_by : (framing : Framing) (bytes : List ℕ) → Answers framing bytes More → IsPrefix framing bytes
+pub prefix_by : (framing : Framing) (bytes : List ℕ) → Answers framing bytes More → IsPrefix framing bytes
 prefix_by Whole bytes a = a
 prefix_by SelfDelimited bytes a = a.0
 
@@ -119,21 +119,3 @@ parts_at (Failed NoMemory) m bytes are r = absurd r
 pub first_parts : (m : MultiFeed) (bytes : List ℕ) → MultiStands m bytes
     → AreFirstParts m.streams m.feed.padding bytes m.parts.items
 first_parts m bytes s = parts_at m.place m bytes s.are_bytes s.at
-
-pub ended_at : (place : MultiPlace) (m : MultiFeed) (bytes : List ℕ) → MultiEndedAt place m bytes
-    → EndedParts place m.streams m.feed.padding bytes m.parts.items
-ended_at Reading m bytes e = e
-ended_at Done m bytes e = e
-ended_at (Failed (Stream k f)) m bytes e = broken_parts m k f bytes e
-ended_at (Failed (Unequal k)) m bytes e =
-    let a = e.unequal.are in
-    let all : length a.front + 1 ≡ m.streams = omega (arith, e.unequal.counted, ap length a.streams_are, length-append a.front (a.last ∷ [])) in
-    record {
-      first = a.front;
-      rest = a.rest;
-      within = omega (arith, all);
-      stand = a.stand;
-      none = λ more. absurd (omega (arith, all, more));
-      parts_are = e.parts_are;
-    }
-ended_at (Failed NoMemory) m bytes e = absurd e

@@ -6,22 +6,16 @@ use Rattle.opus_packet.specs.declared.fault.Fault.{Fault}
 use Rattle.opus_packet.specs.Value.{duration_of}
 use Rattle.opus_packet.specs.PacketPrefix.{AreBytes}
 use Rattle.opus_packet.specs.Read.{PacketRead}
-use Rattle.opus_feed.specs.declared.framing.Framing.{Framing}
 use Rattle.opus_feed.specs.declared.framing.Framing.TheVariants.{SelfDelimited}
 use Rattle.opus_feed.specs.declared.padding.Padding.{Padding}
-use Rattle.opus_feed.specs.declared.step.Step.TheVariants.{More, Done}
-use Rattle.opus_feed.specs.declared.head.Head.{Head}
-use Rattle.opus_feed.specs.declared.body.Body.{Body}
-use Rattle.opus_feed.specs.declared.place.Place.{Place}
-use Rattle.opus_feed.specs.declared.place.Place.TheVariants.{Opening, Filling, Full, Failed}
+use Rattle.opus_feed.specs.declared.step.Step.TheVariants.{Done}
+use Rattle.opus_feed.specs.declared.place.Place.TheVariants.{Failed}
 use Rattle.opus_feed.specs.declared.feed.Feed.{Feed}
-use Rattle.opus_feed.specs.Places.{IsSteady}
 use Rattle.opus_feed.specs.Stands.{StandsAt}
 use Rattle.opus_feed.specs.Steps.{IsReading}
 use Rattle.opus_feed.specs.Packets.{Refuses}
 use Rattle.opus_feed.specs.Feeds.{Stands, HasFailed}
 use Rattle.opus_feed.specs.Answers.{Answers, Ends, IsRead}
-use Rattle.opus_feed.proofs.AnswerLemmas.{answers}
 use Rattle.opus_multi.specs.declared.multi_feed.MultiFeed.{MultiFeed}
 use Rattle.opus_multi.specs.Streams.{SpelledStream, BeginsWithStream, StandFirst}
 use Rattle.opus_multi.specs.declared.durations.Durations.{Durations}
@@ -37,17 +31,6 @@ use Rattle.opus_multi.proofs.StreamsLemmas.{stand_more, stand_push}
 use Rattle.opus_multi.proofs.ReadLemmas.{framing_more, length-durations}
 
 -- a feed of one packet
-
-reading_by : (framing : Framing) (padding : Padding) (place : Place) (h : Head) (b : Body) (bytes : List ℕ)
-    → IsSteady framing padding place h b → AreBytes bytes → StandsAt framing place h b bytes → IsReading place
-    → Answers framing bytes More
-reading_by framing padding (Opening stage) h b bytes is are at reading = answers framing padding (Opening stage) h b 0 bytes is are at
-reading_by framing padding Filling h b bytes is are at reading = answers framing padding Filling h b 0 bytes is are at
-reading_by framing padding Full h b bytes is are at reading = absurd reading
-reading_by framing padding (Failed rule) h b bytes is are at reading = absurd reading
-
-pub reading_answer : (f : Feed) (bytes : List ℕ) → Stands f bytes → IsReading f.place → Answers f.framing bytes More
-reading_answer f bytes s reading = reading_by f.framing f.padding f.place f.head f.body bytes f.steady s.are_bytes s.at reading
 
 refuses_on : (f : Feed) (fault : Fault) (bytes : List ℕ) → Stands f bytes → HasFailed fault f → (more : List ℕ)
     → AreBytes (bytes ++ more) → Refuses f.framing fault (bytes ++ more)

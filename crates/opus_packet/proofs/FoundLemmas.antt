@@ -1,5 +1,5 @@
 -- A whole header with so many bytes behind it is a packet.
-use Rattle.std.proofs.Common.{◌≡◌, ℕ, zero, suc, ◌+◌, ◌-◌, ◌*◌, ◌≤◌, Bool, List, [], ◌∷◌, ◌++◌, map, length, take, drop, sum, refl, sym, ap, ◌∙◌, subst, append_assoc, length-append, length-take-le, length-drop, take-append-drop, take_at, drop_at, drop-drop, arith}
+use Rattle.std.proofs.Common.{◌≡◌, ℕ, zero, suc, ◌+◌, ◌-◌, ◌*◌, ◌≤◌, Bool, List, [], ◌∷◌, ◌++◌, map, length, take, drop, sum, refl, sym, ap, ◌∙◌, subst, append_assoc, length-append, length-take-le, length-drop, take-append-drop, drop_at, drop-drop, arith}
 use Rattle.std.specs.List.{AllByRecursion, concat}
 use Rattle.std.proofs.lemmas.List.{length-replicate}
 use Rattle.opus_toc.specs.Configuration.{samples_of}
@@ -13,6 +13,7 @@ use Rattle.opus_packet.specs.Cut.{cut}
 use Rattle.opus_packet.proofs.LengthsReadLemmas.{AreLengths, AreLengths-replicate}
 use Rattle.opus_packet.proofs.HeaderLemmas.{SuitsSizes, IsHeader, header_read-begins, frames-most}
 use Rattle.opus_packet.proofs.CutLemmas.{sum-push, sum-replicate, length-cut, lengths-cut, concat-cut, frames-each, have_length, AreLengths-push}
+use Rattle.opus_packet.proofs.LensLemmas.{take-push}
 
 -- all lengths that a header tells
 
@@ -31,12 +32,6 @@ AreLengths-frame_lengths (given lengths) n each fits = AreLengths-push lengths n
 
 -- the sizes in a header are those of its frames
 
-all_but_last : (lengths : List ℕ) (n : ℕ)
-    → take (length (lengths ++ n ∷ []) - 1) (lengths ++ n ∷ []) ≡ lengths
-all_but_last lengths n =
-    let size = length-append lengths (n ∷ []) in
-    take_at lengths (n ∷ []) (length (lengths ++ n ∷ []) - 1) (omega arith)
-
 pub sizes_for-frame_lengths : (code : ℕ) (vbr : Bool) (pad : ℕ) (sizes : Sizes) (n : ℕ)
     → SuitsSizes code vbr pad sizes → sizes_for (shape_of code vbr pad) (frame_lengths sizes n) ≡ sizes
 sizes_for-frame_lengths zero vbr pad (equal count) n suits =
@@ -47,11 +42,11 @@ sizes_for-frame_lengths (suc zero) vbr pad (equal count) n suits =
 sizes_for-frame_lengths (suc zero) vbr pad (given lengths) n suits = absurd suits
 sizes_for-frame_lengths (suc (suc zero)) vbr pad (equal count) n suits = absurd suits
 sizes_for-frame_lengths (suc (suc zero)) vbr pad (given lengths) n suits =
-    ap given (all_but_last lengths n)
+    ap given (take-push lengths n)
 sizes_for-frame_lengths (suc (suc (suc zero))) vbr pad (equal count) n suits =
     rw (suits.1) (ap equal (length-replicate count n))
 sizes_for-frame_lengths (suc (suc (suc zero))) vbr pad (given lengths) n suits =
-    rw (suits.1) (ap given (all_but_last lengths n))
+    rw (suits.1) (ap given (take-push lengths n))
 sizes_for-frame_lengths (suc (suc (suc (suc code)))) vbr pad sizes n suits = absurd suits
 
 -- frames of these lengths suit the code

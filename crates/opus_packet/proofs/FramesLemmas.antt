@@ -1,9 +1,8 @@
 -- Frames that are walked past, one after another.
-use Rattle.std.proofs.Common.{◌≡◌, ℕ, zero, suc, ◌+◌, ◌<◌, ◌≤◌, Option, Some, None, List, [], ◌∷◌, length, drop, sym, ap, ◌∙◌, arith, length-drop}
-use Rattle.std.specs.List.{slice_get, AllByRecursion}
+use Rattle.std.proofs.Common.{◌≡◌, ℕ, zero, suc, ◌+◌, ◌<◌, Option, Some, None, List, [], ◌∷◌, length, drop, sym, ap, ◌∙◌, arith, length-drop}
+use Rattle.std.specs.List.{slice_get}
 use Rattle.std.specs.Option.{MatchOption}
 use Rattle.std.proofs.lemmas.List.{drop-drop}
-use Rattle.opus_packet.specs.Value.{IsFrame, max_frame}
 
 -- the first that is left, and the others; or nothing is left
 abbrev pub Gives : {A : Type 0} → (A → List ℕ) → List (List ℕ) → Option A → List (List ℕ) → Type 0
@@ -28,15 +27,6 @@ pub is_at : (frames before after : List (List ℕ)) (i k : ℕ) (f : List ℕ) �
     → before ≡ f ∷ after → slice_get frames i ≡ Some f
 is_at frames before after i k f at same gives =
     first_left frames i f after (ap (λ n. drop n frames) (sym same) ∙ sym at ∙ gives)
-
-pub is_frame : (frames : List (List ℕ)) (i : ℕ) (f : List ℕ) → AllByRecursion IsFrame frames
-    → slice_get frames i ≡ Some f → length f ≤ max_frame
-is_frame [] i f each is = cc
-is_frame (g ∷ fs) zero f each is = go is each.0
-  where
-    go : Some g ≡ Some f → length g ≤ max_frame → length f ≤ max_frame
-    go e le = let same : g ≡ f = cc in omega (arith, le, ap length same)
-is_frame (g ∷ fs) (suc i) f each is = is_frame fs i f each.1 is
 
 pub some_left : (frames before : List (List ℕ)) (i k : ℕ) → before ≡ drop k frames → k ≡ i
     → i < length frames → before ≡ [] → ⊥

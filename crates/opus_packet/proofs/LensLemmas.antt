@@ -12,7 +12,7 @@ use Rattle.opus_packet.specs.Value.{max_frame, IsFrame}
 use Rattle.opus_packet.specs.Cut.{cut}
 use Rattle.opus_packet.specs.SelfGrammar.{last_length}
 use Rattle.opus_flen.specs.FrameLength.{length_bytes, length_read}
-use Rattle.opus_flen.specs.declared.frame_length.LenRead.TheVariants.{Len, Cut}
+use Rattle.opus_flen.specs.declared.frame_length.LenRead.TheVariants.{Len}
 use Rattle.opus_flen.proofs.LengthLemmas.{length_read-spelled, length-length_bytes}
 use Rattle.opus_packet.specs.declared.lens.Before as declared
 use Rattle.opus_packet.specs.declared.lens.Before.TheVariants.{Equal, Spelled, Listed}
@@ -84,17 +84,6 @@ splits left bytes n used spells read = go (lengths_in (suc left) bytes) refl spe
           small = subst (λ k. k ≤ max_frame) first.0 (All-head (λ k. k ≤ max_frame) m ms each);
         }
 
--- bytes that spell lengths don't end within the first
-pub not_cut : (left : ℕ) (bytes : List ℕ) → SpellsLengths (suc left) bytes → length_read bytes ≡ Cut → ⊥
-not_cut left bytes spells read = go (lengths_in (suc left) bytes) refl spells
-  where
-    go : (ns : List ℕ) → lengths_in (suc left) bytes ≡ ns → SpellsLengths (suc left) bytes → ⊥
-    go [] are s = absurd (omega (arith, s.counted, ap length are))
-    go (m ∷ ms) are s =
-        let own : bytes ≡ length_bytes m ++ flat_map length_bytes ms = s.own ∙ ap (λ l. flat_map length_bytes l) are in
-        let e : Len m (length (length_bytes m)) ≡ Cut = sym (length_read-spelled m (flat_map length_bytes ms)) ∙ ap length_read (sym own) ∙ read in
-        cc
-
 -- a number repeated is one number
 pub one_number : (count n : ℕ) → have_one_length (replicate count n) ≡ true
 one_number zero n = refl
@@ -141,7 +130,7 @@ spelling-short (Listed lens) last count before few = tt
 
 -- bytes in which lengths lie spelled are the spelling of all but the last
 
-take-push : (ns : List ℕ) (n : ℕ) → take (length (ns ++ n ∷ []) - 1) (ns ++ n ∷ []) ≡ ns
+pub take-push : (ns : List ℕ) (n : ℕ) → take (length (ns ++ n ∷ []) - 1) (ns ++ n ∷ []) ≡ ns
 take-push ns n =
     let behind : length (ns ++ n ∷ []) - 1 ≡ length ns = omega (arith, length_push ns n) in
     ap (λ k. take k (ns ++ n ∷ [])) behind ∙ take-append_seam ns (n ∷ [])

@@ -208,12 +208,6 @@ header-stands p bytes body h fits toc shape used tail made =
         let same : length (lengths_in (count - 1) (spelling_at width used bs)) + 1 ≡ count = omega (arith, spelled.2.counted, some) in
         subst (λ k. k * samples_of config ≤ max_duration) (sym same) lasts
 
--- the frames of a packet have at most 61,200 bytes
-pub body-small : (sizes : declared_sizes.Sizes) (n : ℕ) → AreSized sizes → n ≤ max_frame
-    → body_size (sizes_value sizes) n ≤ 61200
-body-small (EqualSizes count) n sized fits = omega (arith, mul-le-mul sized.1 fits)
-body-small (Given s) n sized fits = omega (arith, sized.sum_is, sized.low, fits)
-
 pub given-small : (p : Places) (bytes : List ℕ) (body width : ℕ) → HeaderFits p bytes → p.lens ≡ Spelled width
     → body ≡ body_size (header_at p bytes).sizes p.last → body - p.last ≤ 59925
 given-small p bytes body width fits is size =

@@ -34,7 +34,7 @@ given_few : (sizes : Sizes) → 1 ≤ frame_count sizes → length (given_length
 given_few (equal count) some = some
 given_few (given lengths) some = omega arith
 
-body_most : (frames : List (List ℕ)) → AllByRecursion IsFrame frames → length (concat frames) ≤ max_frame * length frames
+pub body_most : (frames : List (List ℕ)) → AllByRecursion IsFrame frames → length (concat frames) ≤ max_frame * length frames
 body_most [] each = omega arith
 body_most (f ∷ fs) each =
     let rest = body_most fs each.1 in

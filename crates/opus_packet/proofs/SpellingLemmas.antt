@@ -2,7 +2,6 @@
 use Rattle.std.proofs.Common.{◌≡◌, ℕ, ◌+◌, ◌-◌, ◌*◌, ◌≤◌, Bool, true, false, if◌then◌else◌, List, [], ◌∷◌, ◌++◌, length, map, sum, take, flat_map, refl, sym, ap, ◌∙◌, arith, length-append, append-nil}
 use Rattle.std.proofs.lemmas.List.Concat.{flat_map-append}
 use Rattle.opus_flen.specs.FrameLength.{length_bytes}
-use Rattle.opus_flen.proofs.LengthLemmas.{length-length_bytes}
 use Rattle.opus_packet.specs.SelfGrammar.{last_length}
 use Rattle.std.specs.List.{concat}
 use Rattle.opus_packet.specs.declared.shape.Shape.{Shape}
@@ -19,21 +18,6 @@ use Rattle.opus_packet.proofs.LensLemmas.{last_length-at}
 pub record Counted (all left : List ℕ) (size : ℕ) : Type 0 where
   pub same : length (flat_map length_bytes all) ≡ size + length (flat_map length_bytes left)
   pub small : size + 2 * length left ≤ 96
-
-pub Counted-start : (all : List ℕ) → length all ≤ 48 → Counted all all 0
-Counted-start all few = record { same = omega arith; small = omega arith }
-
-pub Counted-more : (all left rest : List ℕ) (n size more : ℕ) → left ≡ n ∷ rest
-    → more ≡ length (length_bytes n) → Counted all left size → Counted all rest (size + more)
-Counted-more all left rest n size more first is c =
-    let joined = length-append (length_bytes n) (flat_map length_bytes rest) in
-    let moved = ap (λ l. length (flat_map length_bytes l)) first in
-    let count = ap length first in
-    let wide = length-length_bytes n in
-    record {
-      same = omega (arith, c.same, moved, joined, is);
-      small = omega (arith, c.small, count, is, wide.1);
-    }
 
 -- the bytes of all lengths are those of all but the last, and of the last
 pub spelled-last : (ns : List ℕ) → 1 ≤ length ns

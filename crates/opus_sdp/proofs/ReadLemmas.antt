@@ -1,5 +1,5 @@
 -- The loop over the pieces.
-use Rattle.std.proofs.Common.{◌≡◌, ◌<◌, ◌≤◌, ℕ, ◌+◌, List, [], ◌++◌, length, map, take, drop, ◌-◌, None, Ok, Err, append_assoc, append-nil, refl, sym, ap, subst, ◌∙◌, inl, inr, ◌⊎◌, arith, drop-drop, length-drop}
+use Rattle.std.proofs.Common.{◌≡◌, ◌<◌, ◌≤◌, ℕ, ◌+◌, List, [], ◌++◌, length, map, take, drop, ◌-◌, None, Ok, Err, append_assoc, append-nil, sym, ap, subst, ◌∙◌, inl, inr, ◌⊎◌, arith, drop-drop, length-drop}
 use Rattle.std.specs.List.{position_or_len, before_first, after_first}
 use Rattle.std.specs.Option.{option_or}
 use Rattle.std.proofs.lemmas.Bool.{cases_lt}
@@ -21,15 +21,6 @@ pub record Going (at : ℕ) (text : List ℕ) (found : Found) (from : ℕ) : Typ
   pub within : from ≤ length text
   pub fault : first_fault [] (parts_of at text) ≡ first_fault before (parts_of (at + from) (drop from text))
   pub params : map param_of (parts_of at text) ≡ before ++ map param_of (parts_of (at + from) (drop from text))
-
-pub going-start : (at : ℕ) (text : List ℕ) (found : Found) → Stands found [] → Going at text found 0
-going-start at text found stands = record {
-  before = [];
-  stands = stands;
-  within = omega arith;
-  fault = let same : at + 0 ≡ at = omega arith in rw same refl;
-  params = let same : at + 0 ≡ at = omega arith in rw same refl;
-}
 
 -- the size of the first piece of what the loop looks at, and this piece
 pub size-shown : (text : List ℕ) (from size : ℕ) → size ≡ position_or_len is_semicolon (take (length text - from) (drop from text))

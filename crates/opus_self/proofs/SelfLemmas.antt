@@ -1,6 +1,6 @@
 -- A self-delimited packet is an undelimited one with the last frame's length behind the header, and says itself
 -- where it ends.
-use Rattle.std.proofs.Common.{◌≡◌, ℕ, zero, suc, ◌+◌, ◌≤◌, List, [], ◌∷◌, ◌++◌, map, length, take, drop, replicate, sum, refl, sym, ap, ◌∙◌, subst, append_assoc, length-append, length-take-le, take-append-drop, take-take, drop_at, arith}
+use Rattle.std.proofs.Common.{◌≡◌, ℕ, zero, suc, ◌+◌, ◌≤◌, List, [], ◌++◌, map, length, take, drop, replicate, sum, refl, sym, ap, ◌∙◌, subst, append_assoc, length-append, length-take-le, take-append-drop, take-take, drop_at, arith}
 use Rattle.std.proofs.Math.Seq.{take-append-add, drop-append-add}
 use Rattle.std.proofs.lemmas.List.{append_cancel_left}
 use Rattle.std.specs.List.{concat}
@@ -20,14 +20,10 @@ use Rattle.opus_packet.proofs.BytesLemmas.{AreBytes-append, AreBytes-left, AreBy
 use Rattle.opus_packet.proofs.CutLemmas.{length-concat}
 use Rattle.opus_packet.proofs.HeaderLemmas.{IsHeader, header_read-spelled}
 use Rattle.opus_packet.proofs.GrammarLemmas.{sum-frame_lengths, sizes_of, header_for-is, found, only, body_size-unique, IsPacket-unique}
+use Rattle.opus_packet.proofs.LensLemmas.{last_length-push}
 use Rattle.opus_self.specs.ValueBehind.{value_behind}
 
 -- the last of some lengths
-
-last_length-push : (ns : List ℕ) (n : ℕ) → last_length (ns ++ n ∷ []) ≡ n
-last_length-push [] n = refl
-last_length-push (m ∷ []) n = refl
-last_length-push (m ∷ k ∷ ns) n = last_length-push (k ∷ ns) n
 
 last_length-replicate : (count n : ℕ) → last_length (replicate (suc count) n) ≡ n
 last_length-replicate zero n = refl

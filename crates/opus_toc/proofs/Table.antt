@@ -93,9 +93,6 @@ pub samples-most : (config : ℕ) → config < 32 → samples_of config ≤ 2880
 samples-most config known =
     leb-true (samples_of config) 2880 (and_parts _ _ (all_within config known)).1
 
-pub samples-positive : (config : ℕ) → config < 32 → 0 < samples_of config
-samples-positive config known = let least = samples-least config known in omega arith
-
 -- the mode and the bandwidth of each range
 pub ruleset ranges = (mode_of-by_range, bandwidth_of-low, bandwidth_of-high)
 

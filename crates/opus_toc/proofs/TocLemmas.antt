@@ -9,17 +9,6 @@ stereo_of-set byte set = eq-eqb ((byte / 4) % 2) 1 set
 stereo_of-clear : (byte : ℕ) → (byte / 4) % 2 ≡ 0 → stereo_of byte ≡ false
 stereo_of-clear byte clear = ne_eqb ((byte / 4) % 2) 1 (λ e. omega arith)
 
-pub config_of-below : (byte : ℕ) → byte < 256 → config_of byte < 32
-config_of-below byte fits = omega arith
-
-pub code_of-below : (byte : ℕ) → code_of byte < 4
-code_of-below byte = omega arith
-
-pub toc_byte-below : (config : ℕ) (stereo : Bool) (code : ℕ) → config < 32 → code < 4
-    → toc_byte config stereo code < 256
-toc_byte-below config true code known two_bits = omega arith
-toc_byte-below config false code known two_bits = omega arith
-
 -- a byte is the one of its parts
 pub toc_byte-of_parts : (byte : ℕ)
     → toc_byte (config_of byte) (stereo_of byte) (code_of byte) ≡ byte

@@ -1,10 +1,8 @@
 -- Headers made of lengths.
-use Rattle.std.proofs.Common.{◌≡◌, ℕ, ◌+◌, ◌-◌, ◌≤◌, Bool, true, false, ◌||◌, ◌==◌, if◌then◌else◌, List, [], ◌∷◌, ◌++◌, length, take, flat_map, All, refl, sym, ap, ◌∙◌, length-take-le, append_assoc, arith}
-use Rattle.std.proofs.lemmas.List.Elements.{All-take, All-nil}
+use Rattle.std.proofs.Common.{◌≡◌, ℕ, ◌+◌, ◌-◌, ◌≤◌, Bool, true, false, ◌||◌, ◌==◌, if◌then◌else◌, List, [], ◌∷◌, ◌++◌, length, take, flat_map, refl, sym, ap, ◌∙◌, length-take-le, append_assoc, arith}
 use Rattle.opus_toc.specs.Toc.{toc_byte}
 use Rattle.opus_flen.specs.FrameLength.{length_bytes}
 use Rattle.opus_packet.specs.declared.shape.Shape.{Shape}
-use Rattle.opus_packet.specs.Value.{max_frame}
 use Rattle.opus_packet.specs.Header.{equal, given, frame_count, given_lengths, count_and_padding, header_bytes}
 use Rattle.opus_packet.specs.PacketGrammar.{sizes_for, header_in}
 use Rattle.opus_packet.proofs.HeaderLemmas.{header_bytes-is}
@@ -42,16 +40,6 @@ few_by false lengths some = some
 pub length-given_lengths : (shape : Shape) (lengths : List ℕ) → 1 ≤ length lengths
     → length (given_lengths (sizes_for shape lengths)) + 1 ≤ length lengths
 length-given_lengths shape lengths some = few_by ((shape.code == 2) || shape.vbr) lengths some
-
-each_by : (b : Bool) (lengths : List ℕ) → All (λ n. n ≤ max_frame) lengths
-    → All (λ n. n ≤ max_frame)
-    (given_lengths (if b then given (take (length lengths - 1) lengths) else equal (length lengths)))
-each_by true lengths each = All-take (λ n. n ≤ max_frame) (length lengths - 1) lengths each
-each_by false lengths each = All-nil (λ n. n ≤ max_frame)
-
-pub All-given_lengths : (shape : Shape) (lengths : List ℕ) → All (λ n. n ≤ max_frame) lengths
-    → All (λ n. n ≤ max_frame) (given_lengths (sizes_for shape lengths))
-All-given_lengths shape lengths each = each_by ((shape.code == 2) || shape.vbr) lengths each
 
 -- a header in its parts, appended one after another
 pub header-made : (config : ℕ) (stereo : Bool) (shape : Shape) (lengths : List ℕ) → 1 ≤ length lengths

@@ -1,7 +1,7 @@
 -- Lengths that are written one by one.
-use Rattle.std.proofs.Common.{◌≡◌, ℕ, ◌+◌, ◌-◌, ◌*◌, ◌≤◌, List, [], ◌∷◌, ◌++◌, length, take, flat_map, All, refl, sym, ap, ◌∙◌, subst, append-nil, append_assoc, length-append, take_at, arith}
+use Rattle.std.proofs.Common.{◌≡◌, ℕ, ◌+◌, ◌-◌, ◌*◌, ◌≤◌, List, [], ◌∷◌, ◌++◌, length, flat_map, All, sym, ap, ◌∙◌, subst, append-nil, append_assoc, length-append, arith}
 use Rattle.std.proofs.lemmas.List.Concat.{flat_map-append}
-use Rattle.std.proofs.lemmas.List.Elements.{All-head, All-tail}
+use Rattle.std.proofs.lemmas.List.Elements.{All-tail}
 use Rattle.opus_flen.specs.FrameLength.{length_bytes}
 use Rattle.opus_packet.specs.Value.{max_frame}
 
@@ -13,16 +13,6 @@ pub record Listed (all rest : List ℕ) (next : ℕ) (before bytes : List ℕ) :
   pub bytes_are : bytes ≡ before ++ flat_map length_bytes passed
   pub few : length bytes ≤ length before + 2 * length passed
   pub each : All (λ n. n ≤ max_frame) rest
-
-pub Listed-start : (all before : List ℕ) → All (λ n. n ≤ max_frame) all → Listed all all 1 before before
-Listed-start all before each = record {
-  passed = [];
-  apart = refl;
-  counted = refl;
-  bytes_are = sym (append-nil before);
-  few = omega arith;
-  each = each;
-}
 
 pub Listed-more : (all rest others : List ℕ) (next n : ℕ) (before bytes longer : List ℕ) → rest ≡ n ∷ others
     → longer ≡ bytes ++ length_bytes n → length longer ≤ length bytes + 2
@@ -41,25 +31,8 @@ Listed-more all rest others next n before bytes longer first more few l =
       each = All-tail (λ m. m ≤ max_frame) n others (subst (λ r. All (λ m. m ≤ max_frame) r) first l.each);
     }
 
-pub Listed-first : (all rest others : List ℕ) (next n : ℕ) (before bytes : List ℕ) → rest ≡ n ∷ others
-    → Listed all rest next before bytes → n ≤ max_frame
-Listed-first all rest others next n before bytes first l =
-    All-head (λ m. m ≤ max_frame) n others (subst (λ r. All (λ m. m ≤ max_frame) r) first l.each)
-
 -- one more is left where the next isn't the last
 pub Listed-some : (all rest : List ℕ) (next : ℕ) (before bytes : List ℕ) → rest ≡ [] → next + 1 ≤ length all
     → Listed all rest next before bytes → ⊥
 Listed-some all rest next before bytes none more l =
     omega (arith, ap length l.apart, length-append l.passed rest, ap length none, l.counted)
-
-pub Listed-end : (all rest : List ℕ) (next : ℕ) (before bytes : List ℕ) → next ≡ length all
-    → Listed all rest next before bytes
-    → bytes ≡ before ++ flat_map length_bytes (take (length all - 1) all)
-Listed-end all rest next before bytes end l =
-    let size : length all - 1 ≡ length l.passed = omega (arith, end, l.counted) in
-    l.bytes_are ∙ ap (λ p. before ++ flat_map length_bytes p)
-    (sym (ap (λ k. take k all) size ∙ ap (λ a. take (length l.passed) a) (sym l.apart) ∙ take_at l.passed rest (length l.passed) refl))
-
-pub Listed-few : (all rest : List ℕ) (next : ℕ) (before bytes : List ℕ) → next ≤ length all → length all ≤ 48
-    → Listed all rest next before bytes → length bytes ≤ length before + 94
-Listed-few all rest next before bytes within most l = omega (arith, l.few, l.counted)

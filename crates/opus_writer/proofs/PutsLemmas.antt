@@ -1,7 +1,6 @@
 -- Pieces that are written one behind another.
 use Rattle.std.proofs.Common.{ℕ, ◌+◌, List, ◌++◌, length, take, Result, Ok, Err, sym, subst, length-append, arith}
 use Rattle.std.proofs.Math.Seq.{take-append-add}
-use Rattle.std.proofs.lemmas.List.{take-append-le}
 use Rattle.std.specs.declared.option.Option.{Option}
 use Rattle.std.specs.Io.KnownBytes.{Appends}
 use Rattle.std.proofs.KnownBytes.{Appends-trans}
@@ -22,19 +21,5 @@ Puts-then old mid new first second (Err e) all p =
         length first + n,
         omega (arith, length-append first second),
         subst (λ l. Appends old new l) (sym (take-append-add first second n)) (Appends-trans old mid new first (take n second) all some),
-      );
-    }
-
--- the first was stopped
-pub Puts-first : {E : Type 0} (old new : Option (List ℕ)) (first second : List ℕ) (e : E)
-    → Puts old new first (Err e) → Puts old new (first ++ second) (Err e)
-Puts-first old new first second e p =
-    let (n, within, some) = p.front in
-    record {
-      ok = tt;
-      front = (
-        n,
-        omega (arith, length-append first second, within),
-        subst (λ l. Appends old new l) (sym (take-append-le n first second within)) some,
       );
     }

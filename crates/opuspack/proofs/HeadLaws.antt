@@ -10,9 +10,9 @@ use Rattle.opus_head.specs.HeadBytes.{IsOpusHead}
 use Rattle.opus_head.specs.HeadFault.{head_fault, fault_place}
 use Rattle.opus_head.specs.declared.fault.HeadFault.{HeadFault}
 use Rattle.opus_head.specs.declared.fault.HeadFault.TheVariants.{Magic, Cut, Version, Channels, Streams, Coupled, MapByte, Extra, NoMemory}
-use Rattle.opus_head.proofs.SpelledLemmas.{AreBytes-take}
 use Rattle.opus_head.proofs.LongerLemmas.{front-of, head_size-same, head_fault-longer}
 use Rattle.opus_head.proofs.LongerHeadLemmas.{head-longer}
+use Rattle.opus_io.proofs.BytesLemmas.{AreBytes-take}
 use Rattle.opuspack.specs.declared.head.HeadRefusal.{HeadRefusal}
 use Rattle.opuspack.specs.declared.never.Never.{Never}
 use Rattle.opuspack.specs.declared.whole.WholeInput.{WholeInput}

@@ -1,5 +1,5 @@
 -- The lines of a head; and a run that found no memory before it began.
-use Rattle.std.proofs.Common.{◌≡◌, ℕ, List, [], ◌∷◌, ◌++◌, codes, refl, sym, ap, ◌∙◌, subst, arith}
+use Rattle.std.proofs.Common.{◌≡◌, ℕ, List, [], ◌∷◌, ◌++◌, codes, refl, sym, ap, ◌∙◌, subst}
 use Rattle.opus_io.specs.Outside.{Outside}
 use Rattle.job_loop.specs.Meaning.{goes}
 use Rattle.job_ends.proofs.EndsLemmas.{unstarted_ends}
@@ -35,4 +35,4 @@ head_told h bytes is =
 pub head_unstarted : (limit : ℕ) (outside : Outside) → HeadEnds limit outside outside NoMemory
 head_unstarted limit outside =
     unstarted_ends TellsHead place_of head WholeSettles WholeEnds limit outside (Unit {0}) tt
-    (record { are_bytes = λ i. omega arith; records_are = refl })
+    (record { are_bytes = tt; records_are = refl })

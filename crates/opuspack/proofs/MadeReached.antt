@@ -1,14 +1,15 @@
 -- How far a run over made records has come.
-use Rattle.std.proofs.Common.{◌≡◌, ℕ, ◌+◌, ◌<◌, ◌≤◌, List, [], ◌∷◌, ◌++◌, Option, drop, refl, sym, ap, ◌∙◌, subst, append_assoc, append-nil, take-append-drop, arith}
+use Rattle.std.proofs.Common.{◌≡◌, ℕ, ◌+◌, ◌<◌, ◌≤◌, List, [], ◌∷◌, ◌++◌, Option, drop, refl, sym, ap, ◌∙◌, subst, take-append-drop, arith}
 use Rattle.std.specs.Io.KnownBytes.{Appends}
 use Rattle.std.proofs.KnownBytes.{Appends-nil, Appends-trans}
 use Rattle.std.proofs.lemmas.List.FromFn.{map-range_with_len_more, take-map-range_with_len}
 use Rattle.job_loop.specs.Shown.{Shown}
-use Rattle.job_loop.specs.Meaning.{Meaning, Step, Run, going, broke, step_text, run_text, adds, runs, opened}
+use Rattle.job_loop.specs.Meaning.{Meaning, Step, step_text, run_text, adds, runs, opened}
 use Rattle.job_loop.specs.Telling.{Front, Goes, Stops}
 use Rattle.job_loop.specs.declared.job.JobStop.{JobStop}
 use Rattle.job_loop.specs.declared.job.JobStop.TheVariants.{Refused, Sink}
-use Rattle.job_loop.proofs.RunLemmas.{runs-append, runs-on, runs-broke, adds_text, Front-behind, Front-longer}
+use Rattle.job_loop.proofs.RunLemmas.{runs-append, runs-on, adds_text, Front-behind, Front-longer}
+use Rattle.job_loop.proofs.LawLemmas.{runs_text}
 use Rattle.opuspack.specs.declared.made.MadeRecord.{MadeRecord}
 use Rattle.opuspack.specs.declared.never.Never.{Never}
 use Rattle.opuspack.specs.Made.{made_bytes, made_shown, made_records}
@@ -37,18 +38,6 @@ made_records-front seed number count within = (
   sym (take-append-drop number (made_records seed count))
       ∙ ap (λ rs. rs ++ drop number (made_records seed count)) (take-map-range_with_len (made_shown seed) 0 count number within),
 )
-
--- records add text
-runs_text : {R K C F : Type 0} → (m : Meaning R K C F) (run : Run K F) (rs : List R)
-    → (more : List ℕ) × (run_text (runs m run rs) ≡ run_text run ++ more)
-runs_text m (broke text f) rs = ([], ap run_text (runs-broke m text f rs) ∙ sym (append-nil text))
-runs_text m (going text kept) [] = ([], sym (append-nil text))
-runs_text m (going text kept) (r ∷ rs) =
-    let step = m.step kept r in
-    let behind = runs_text m (adds text step) rs in (
-      step_text step ++ behind.0,
-      behind.1 ∙ ap (λ t. t ++ behind.0) (adds_text text step) ∙ append_assoc text (step_text step) behind.0,
-    )
 
 -- made records aren't refused, so a sink stopped the job
 pub stopped_front : {K : Type 0} → (e : JobStop Never) (step : Step K Never) (b c : Option (List ℕ)) → Stops e step b c

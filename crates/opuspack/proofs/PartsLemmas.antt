@@ -14,12 +14,6 @@ pub piece_front_if : {T E : Type 0} → (result : Result T E) (x : List ℕ) (a 
 piece_front_if (Ok done) x a b piece = tt
 piece_front_if (Err stop) x a b piece = piece_front x a b piece
 
--- a front of a second part, behind the first one
-pub behind_front_if : {T E : Type 0} → (result : Result T E) (x y : List ℕ) (a b c : Option (List ℕ)) → Appends a b x
-    → OnErr result (Front y b c) → OnErr result (Front (x ++ y) a c)
-behind_front_if (Ok done) x y a b c first front = tt
-behind_front_if (Err stop) x y a b c first front = Front-behind x y a b c first front
-
 module _ (x y z : List ℕ) (a b c d : Option (List ℕ)) where
   pub first_front : Front x a b → Front (x ++ y ++ z) a b
   first_front front = Front-longer (x ++ y) z a b (Front-longer x y a b front)

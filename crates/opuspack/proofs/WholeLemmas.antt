@@ -1,22 +1,17 @@
 -- What is kept of an input that is one record.
-use Rattle.std.proofs.Common.{◌≡◌, ◌⊎◌, ℕ, ◌-◌, ◌<◌, ◌≤◌, List, ◌++◌, length, take, min, inl, inr, ⊎_elim, refl, sym, ap, ◌∙◌, subst, append-nil, length-take, arith}
+use Rattle.std.proofs.Common.{◌≡◌, ◌⊎◌, ℕ, ◌-◌, ◌<◌, ◌≤◌, List, ◌++◌, length, take, min, inl, inr, refl, sym, ap, ◌∙◌, subst, append-nil, length-take, arith}
 use Rattle.std.proofs.lemmas.Bool.{cases_lt}
-use Rattle.std.proofs.lemmas.List.{take_all, take_min, take-append-le, get_or_append_left}
-use Rattle.std.proofs.Math.Seq.{take-length, take-append-add, get_or-append_right}
+use Rattle.std.proofs.lemmas.List.{take_all, take_min, take-append-le}
+use Rattle.std.proofs.Math.Seq.{take-length, take-append-add}
 use Rattle.job_loop.specs.Shown.{Shown}
 use Rattle.opus_head.specs.HeadValue.{AreBytes}
+use Rattle.opus_io.proofs.BytesLemmas.{AreBytes-append}
 use Rattle.opuspack.specs.declared.whole.WholeInput.{WholeInput}
 use Rattle.opuspack.specs.Whole.{kept_most, WholeStands}
 
 pub kept_most-is : kept_most ≡ 115792
 unfolding kept_most
 kept_most-is = refl
-
-are_bytes : (xs ys : List ℕ) → AreBytes xs → AreBytes ys → AreBytes (xs ++ ys)
-are_bytes xs ys a b i =
-    ⊎_elim (λ (within : i < length xs). subst (λ n. n < 256) (sym (get_or_append_left xs ys 0 i within)) (a i))
-    (λ (behind : length xs ≤ i). subst (λ n. n < 256) (sym (get_or-append_right xs ys i 0 behind)) (b (i - length xs)))
-    (cases_lt i (length xs))
 
 take_least : (n : ℕ) (xs : List ℕ) → take (min (length xs) n) xs ≡ take n xs
 take_least n xs = ap (λ k. take k xs) (omega arith) ∙ take_min n xs
@@ -45,7 +40,7 @@ whole_fed h piece kept kept' rs count stands bytes count_is new_is =
     let all : h ++ take (length piece) piece ≡ h ++ piece = ap (λ l. h ++ l) (take-length piece) in
     subst (λ l. WholeStands kept' l rs) (sym all) (record {
       settles = record {
-        are_bytes = are_bytes h piece stands.settles.are_bytes bytes;
+        are_bytes = AreBytes-append h piece stands.settles.are_bytes bytes;
         records_are = stands.settles.records_are;
       };
       kept_are = new_is ∙ ap (λ n. kept ++ take n piece) count_is

@@ -20,9 +20,10 @@ use Rattle.opus_feed.specs.declared.padding.Padding.TheVariants.{Drop, Keep}
 use Rattle.pack_records.specs.declared.item.Item.{Item}
 use Rattle.pack_records.specs.Fits.{form_of}
 use Rattle.pack_records.specs.Holds.{Reads, HoldsPacket}
+use Rattle.pack_records.proofs.LentLemmas.{tail-few}
 use Rattle.pack_jobs.specs.Norm.{is_long}
 use Rattle.pack_jobs.specs.Written.{payload_of}
-use Rattle.pack_jobs.proofs.KeptBytes.{kept_of, kept_again, kept_small, kept_are}
+use Rattle.pack_jobs.proofs.KeptBytes.{kept_of, kept_again, kept_are}
 use Rattle.pack_jobs.proofs.FormBytes.{form-are}
 
 -- bytes that are read again as they stand
@@ -71,7 +72,7 @@ packet_again padding framing start range bytes r holds are =
       value = holds.value;
       tail = tail;
       is_value = parts.value;
-      small = kept_small padding holds.tail;
+      small = tail-few padding holds.tail;
       again = kept_again padding holds.tail;
       bytes_are = is;
       are = subst AreBytes (sym is) (form-are framing holds.value tail parts.value parts.frames (kept_are padding holds.tail parts.padding));

@@ -1,9 +1,9 @@
 -- How long the bytes are that are lent of a record.
-use Rattle.std.proofs.Common.{◌≡◌, ℕ, zero, suc, ◌+◌, ◌*◌, ◌^◌, ◌<◌, ◌≤◌, Bool, true, false, ◌==◌, if◌then◌else◌, List, [], ◌∷◌, ◌++◌, length, map, ap, ◌∙◌, length-append, arith}
-use Rattle.std.specs.List.{AllByRecursion, concat}
+use Rattle.std.proofs.Common.{◌≡◌, ℕ, zero, suc, ◌+◌, ◌^◌, ◌<◌, ◌≤◌, Bool, true, false, ◌==◌, if◌then◌else◌, List, [], ◌∷◌, ◌++◌, length, map, ap, ◌∙◌, length-append, arith}
+use Rattle.std.specs.List.{concat}
 use Rattle.opus_flen.proofs.PaddingLemmas.{length-padding_bytes-le}
 use Rattle.opus_flen.proofs.LengthLemmas.{length-length_bytes}
-use Rattle.opus_packet.specs.Value.{PacketValue, IsPacketValue, IsFrame, max_frame}
+use Rattle.opus_packet.specs.Value.{PacketValue, IsPacketValue}
 use Rattle.opus_packet.specs.Header.{header_bytes, given_lengths, padding_length, count_and_padding, frame_count}
 use Rattle.opus_packet.specs.PacketGrammar.{sizes_for, header_for}
 use Rattle.opus_packet.specs.SelfGrammar.{last_length}
@@ -14,6 +14,7 @@ use Rattle.opus_packet.proofs.HeaderLemmas.{padding_length-some}
 use Rattle.opus_packet.proofs.LensLemmas.{spelled_most}
 use Rattle.opus_packet.proofs.Made.{length-header_bytes}
 use Rattle.opus_packet.proofs.SpellingLemmas.{kept_form-is}
+use Rattle.opus_packet.proofs.SizeLemmas.{body_most}
 use Rattle.opus_writer.proofs.FormLemmas.{kept_self-size}
 use Rattle.opus_writer.proofs.HeaderLemmas.{length-given_lengths}
 use Rattle.opus_feed.specs.declared.framing.Framing.{Framing}
@@ -35,13 +36,6 @@ keep_pad : (lengths : List ℕ) (n : ℕ) → n ≤ max_tail → (keep_shape len
 keep_pad lengths zero most = omega (arith, canonical_shape-pad lengths)
 keep_pad lengths (suc n) most = omega arith
 
-frames_most : (frames : List (List ℕ)) → AllByRecursion IsFrame frames → length (concat frames) ≤ max_frame * length frames
-frames_most [] each = omega arith
-frames_most (f ∷ fs) each =
-    let behind = frames_most fs each.1 in
-    let first = each.0 in
-    let both = length-append f (concat fs) in omega arith
-
 pub length-map : (frames : List (List ℕ)) → length (map length frames) ≡ length frames
 length-map [] = omega arith
 length-map (f ∷ fs) = let behind = length-map fs in omega arith
@@ -58,7 +52,7 @@ kept_sizes v tail is small =
     let pad = keep_pad lengths (length tail) small in
     let few = length-given_lengths shape lengths (omega (arith, length-map v.frames, is.some)) in
     let spelled = spelled_most (given_lengths (sizes_for shape lengths)) in
-    let body = frames_most v.frames is.each in
+    let body = body_most v.frames is.each in
     let size = length-header_bytes h in
     let whole = ap length (kept_form-is v tail) ∙ length-append (header_bytes h ++ concat v.frames) tail in
     let rest = length-append (header_bytes h) (concat v.frames) in

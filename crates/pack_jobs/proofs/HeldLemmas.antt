@@ -11,7 +11,7 @@ use Rattle.opus_packet.specs.declared.shape.Shape.{Shape}
 use Rattle.opus_packet.specs.Header.{padding_data}
 use Rattle.opus_packet.specs.PacketPrefix.{AreBytes}
 use Rattle.opus_packet.specs.Tail.{kept, counted, kept_bytes, max_tail}
-use Rattle.opus_packet.specs.Value.{PacketValue, IsPacketValue}
+use Rattle.opus_packet.specs.Value.{PacketValue}
 use Rattle.opus_packet.proofs.BytesLemmas.{AreBytes-left, AreBytes-right}
 use Rattle.opus_feed.specs.declared.framing.Framing.{Framing}
 use Rattle.opus_feed.specs.declared.framing.Framing.TheVariants.{Whole, SelfDelimited as Delimited}
@@ -29,11 +29,13 @@ use Rattle.pack_records.specs.Holds.{Reads, HoldsPacket, Holds, bad_record, lost
 use Rattle.pack_records.specs.Raw.{RawEnds}
 use Rattle.pack_records.specs.Demo.{StoreRecord, store_of, IsStoreRecord as IsStored, ShowsPayload, ShowsRest, ShowsStore}
 use Rattle.pack_records.specs.Framed.{Shows, end_records}
+use Rattle.pack_records.proofs.FormLemmas.{value_of}
+use Rattle.pack_records.proofs.LentLemmas.{tail-few}
 use Rattle.pack_jobs.specs.Norm.{is_long, norm}
 use Rattle.pack_jobs.specs.Written.{IsTaken, AreTaken, IsGood, AreGood}
 use Rattle.pack_jobs.specs.SameRecords.{IsPacketIn, IsStored as HasStored, IsLoneRecord, IsStoreRecord, AreRecordsOf}
 use Rattle.pack_jobs.specs.PackEnds.{ends_in}
-use Rattle.pack_jobs.proofs.KeptBytes.{kept_of, kept_small}
+use Rattle.pack_jobs.proofs.KeptBytes.{kept_of}
 use Rattle.pack_jobs.proofs.NormLemmas.{norm_taken}
 
 -- ---- one record
@@ -171,18 +173,13 @@ all_held form padding [] good are = tt
 all_held form padding (r ∷ rs) good are =
     (good_held form padding r good.0 are.0, all_held form padding rs good.1 are.1)
 
-pub reads-value : (framing : Framing) (v : PacketValue) (shape : Shape) (tail bytes : List ℕ)
-    → Reads framing v shape tail bytes → IsPacketValue v
-reads-value Whole v shape tail bytes reads = reads.value
-reads-value Delimited v shape tail bytes reads = reads.value
-
 pub held-form : (padding : Padding) (framing : Framing) (start range : ℕ) (bytes : List ℕ) (r : Shown Item)
     → HoldsPacket padding framing start range bytes r → IsForm framing r.bytes
 held-form padding framing start range bytes r holds = record {
   value = holds.value;
   tail = kept_of padding holds.tail;
-  is_value = reads-value framing holds.value holds.shape holds.tail bytes holds.reads;
-  small = kept_small padding holds.tail;
+  is_value = value_of framing holds.value holds.shape holds.tail bytes holds.reads;
+  small = tail-few padding holds.tail;
   bytes_are = ap (λ (s : Shown Item). s.bytes) holds.shows;
 }
 

@@ -1,6 +1,5 @@
 -- What is kept of padding bytes.
-use Rattle.std.proofs.Common.{◌≡◌, ◌≤◌, Bool, true, false, nat_le, if◌then◌else◌, List, ℕ, [], ◌∷◌, length, refl, ap, arith}
-use Rattle.std.proofs.lemmas.Bool.{leb-true}
+use Rattle.std.proofs.Common.{◌≡◌, Bool, true, false, nat_le, if◌then◌else◌, List, ℕ, [], ◌∷◌, length, refl, ap}
 use Rattle.opus_packet.specs.PacketPrefix.{AreBytes}
 use Rattle.opus_packet.specs.Tail.{kept, counted, kept_bytes, max_tail}
 use Rattle.opus_feed.specs.declared.padding.Padding.{Padding}
@@ -20,16 +19,6 @@ pub kept_again : (padding : Padding) (tail : List ℕ) → kept_of padding (kept
 kept_again Drop [] = refl
 kept_again Drop (x ∷ xs) = refl
 kept_again Keep tail = again_by (nat_le (length tail) max_tail) tail refl
-
-small_by : (b : Bool) (tail : List ℕ) → nat_le (length tail) max_tail ≡ b
-    → length (kept_bytes (if b then kept tail else counted (length tail))) ≤ max_tail
-small_by true tail e = leb-true (length tail) max_tail e
-small_by false tail e = omega arith
-
-pub kept_small : (padding : Padding) (tail : List ℕ) → length (kept_of padding tail) ≤ max_tail
-kept_small Drop [] = omega arith
-kept_small Drop (x ∷ xs) = omega arith
-kept_small Keep tail = small_by (nat_le (length tail) max_tail) tail refl
 
 are_by : (b : Bool) (tail : List ℕ) → AreBytes tail
     → AreBytes (kept_bytes (if b then kept tail else counted (length tail)))

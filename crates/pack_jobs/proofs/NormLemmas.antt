@@ -8,7 +8,7 @@ use Rattle.opus_feed.specs.declared.padding.Padding.{Padding}
 use Rattle.opus_words.specs.declared.form.Form.{Form}
 use Rattle.job_ends.specs.Refusal.{told, refusal_of}
 use Rattle.job_ends.specs.Each.{Made, writes, refuses, text_of, texts_from, IsWritten, AreWritten, RefusesWith, IsUncut}
-use Rattle.job_ends.proofs.EachLemmas.{each_written, each_refused, each_cut}
+use Rattle.job_ends.proofs.EachLemmas.{each_written, each_refused, each_cut, all_written, written_all}
 use Rattle.pack_records.specs.declared.cut.Cut.{Cut}
 use Rattle.pack_records.specs.declared.item.Found.{Found}
 use Rattle.pack_records.specs.declared.item.Found.TheVariants.{Packet, Lost, Bad}
@@ -74,17 +74,13 @@ taken_text form padding r (Bad fault) taken = absurd taken
 
 -- all of them
 
-all_written : (form : Form) (padding : Padding) (number : ℕ) (rs : List (Shown Item)) → AreTaken padding rs
+all_taken : (form : Form) (padding : Padding) (number : ℕ) (rs : List (Shown Item)) → AreTaken padding rs
     → AreWritten (made form padding) number rs
-all_written form padding number [] taken = tt
-all_written form padding number (r ∷ rs) taken =
-    (taken_written form padding r r.item.found taken.0, all_written form padding (number + 1) rs taken.1)
+all_taken form padding = all_written (made form padding) (λ (r : Shown Item). IsTaken padding r.item.found) (λ number r. taken_written form padding r r.item.found)
 
-all_taken : (form : Form) (padding : Padding) (number : ℕ) (rs : List (Shown Item))
+taken_all : (form : Form) (padding : Padding) (number : ℕ) (rs : List (Shown Item))
     → AreWritten (made form padding) number rs → AreTaken padding rs
-all_taken form padding number [] written = tt
-all_taken form padding number (r ∷ rs) written =
-    (written_taken form padding r r.item.found written.0, all_taken form padding (number + 1) rs written.1)
+taken_all form padding = written_all (made form padding) (λ (r : Shown Item). IsTaken padding r.item.found) (λ number r. written_taken form padding r r.item.found)
 
 texts_are : (form : Form) (padding : Padding) (number : ℕ) (rs : List (Shown Item)) → AreTaken padding rs
     → texts_from (made form padding) number rs ≡ flat_map (normal_record form) rs
@@ -104,7 +100,7 @@ refused_outcome form padding rs end f at =
       first = at.first;
       after = at.after;
       parts = at.parts;
-      written = all_written form padding 0 at.before at.taken;
+      written = all_taken form padding 0 at.before at.taken;
       refused = refused_made form padding (length at.before) at.first f at.first.item.found at.refused;
     })
     ∙ ap (λ l. broke l f) (texts_are form padding 0 at.before at.taken)
@@ -113,7 +109,7 @@ pub cut_outcome : (form : Form) (padding : Padding) (rs : List (Shown Item)) (c 
     → outcome (norm form padding) rs (ends.Cut c)
     ≡ broke (flat_map (normal_record form) rs) (refusal_of (told (length rs)) c.place StoreCut)
 cut_outcome form padding rs c taken =
-    each_cut cut_refusal (made form padding) rs c (all_written form padding 0 rs taken)
+    each_cut cut_refusal (made form padding) rs c (all_taken form padding 0 rs taken)
     ∙ ap (λ l. broke l (refusal_of (told (length rs)) c.place StoreCut)) (texts_are form padding 0 rs taken)
 
 -- where norm takes all
@@ -127,6 +123,6 @@ pub norm_taken : (form : Form) (padding : Padding) (rs : List (Shown Item)) (end
 norm_taken form padding rs end text =
     let each = each_written cut_refusal (made form padding) rs end text in (
       λ is. (let d = each.0 is in
-          let taken = all_taken form padding 0 rs d.0 in (taken, d.1, d.2 ∙ texts_are form padding 0 rs taken)),
-      λ d. each.1 (all_written form padding 0 rs d.0, d.1, d.2 ∙ sym (texts_are form padding 0 rs d.0)),
+          let taken = taken_all form padding 0 rs d.0 in (taken, d.1, d.2 ∙ texts_are form padding 0 rs taken)),
+      λ d. each.1 (all_taken form padding 0 rs d.0, d.1, d.2 ∙ sym (texts_are form padding 0 rs d.0)),
     )

@@ -20,12 +20,12 @@ use Rattle.pack_records.specs.declared.item.Found.TheVariants.{Packet, Lost, Bad
 use Rattle.pack_records.specs.declared.item.Item.{Item}
 use Rattle.pack_records.specs.Holds.{Reads}
 use Rattle.job_ends.specs.Each.{Made, IsWritten, AreWritten, text_of, texts_from}
-use Rattle.job_ends.proofs.EachLemmas.{each_written}
+use Rattle.job_ends.proofs.EachLemmas.{each_written, written_all}
 use Rattle.pack_jobs.specs.declared.refusal.Why.{Why}
 use Rattle.pack_jobs.specs.declared.refusal.Why.TheVariants.{TooSmall, PadLimit}
 use Rattle.pack_jobs.specs.Refusal.{cut_refusal}
 use Rattle.pack_jobs.specs.Records.{record_bytes}
-use Rattle.pack_jobs.specs.Written.{IsGood, AreGood}
+use Rattle.pack_jobs.specs.Written.{IsGood}
 use Rattle.pack_jobs.specs.Pad.{padded_of, pad_made, pad_value, pad_found, pad}
 use Rattle.pack_jobs.specs.Groups.{packet_in, values_of, frames_of}
 use Rattle.pack_jobs.specs.PackEnds.{ends_in}
@@ -121,11 +121,6 @@ written-good form size r (Packet framing shape spelled) written = tt
 written-good form size r Lost written = tt
 written-good form size r (Bad fault) written = absurd written
 
-all-good : (form : Form) (size number : ℕ) (rs : List (Shown Item)) → AreWritten (made form size) number rs → AreGood rs
-all-good form size number [] written = tt
-all-good form size number (r ∷ rs) written =
-    (written-good form size r r.item.found written.0, all-good form size (number + 1) rs written.1)
-
 whole-in : (form : Form) → form ≢ SelfDelimited → framing_in form ≡ Whole
 whole-in Raw other = refl
 whole-in Demo other = refl
@@ -137,7 +132,7 @@ pub pad_keeps : (form : Form) (size : ℕ) (x : List ℕ) (rs : List (Shown Item
 pad_keeps form size x rs text other ends e =
     let is = (each_written cut_refusal (made form size) rs Closed text).0 e in
     let frames = frames_of (values_of rs) in
-    let held = all_held form Drop rs (all-good form size 0 rs is.0) (all_read form Drop x rs None ends) in
+    let held = all_held form Drop rs (written_all (made form size) (λ (r : Shown Item). IsGood r.item.found) (λ number r. written-good form size r r.item.found) 0 rs is.0) (all_read form Drop x rs None ends) in
     let all = pad-all form size 0 rs (whole-in form other) held is.0 in
     let m = same-for form (texts_from (made form size) 0 rs) text frames frames is.2 refl all.for in
     read-with form text frames m (counted-wrote form Drop x rs None ends m.wrote all.size m.is)

@@ -3,7 +3,7 @@ use Rattle.std.proofs.Common.{◌≡◌, ◌⊎◌, ℕ, suc, ◌+◌, ◌-◌, 
 use Rattle.std.proofs.lemmas.Bool.{cases_lt, eq-eqb, ne_eqb}
 use Rattle.std.proofs.Math.Nat.{div-eq_of_lt, mod-eq_of_lt, div_self, mod_self, add-div_right, add-mod_right}
 use Rattle.std.specs.Io.KnownBytes.{Appends}
-use Rattle.std.proofs.KnownBytes.{Appends-nil, Appends-trans}
+use Rattle.std.proofs.KnownBytes.{Appends-trans}
 use Rattle.job_loop.specs.Telling.{Front}
 use Rattle.job_loop.proofs.RunLemmas.{Front-behind, Front-longer}
 use Rattle.opus_packet.specs.Value.{PacketValue}
@@ -68,11 +68,6 @@ some_count most m some left = go (cases_lt most m)
 abbrev pub records_from : Form → ℕ → ℕ → PacketValue → ℕ → List ℕ
 records_from form range most v from =
     piece_records form range (parts_from v from (piece_counts most (length v.frames - from)))
-
-pub records-all : (form : Form) (range most : ℕ) (v : PacketValue)
-    → piece_records form range (pieces most v) ≡ records_from form range most v 0
-records-all form range most v =
-    ap (λ n. piece_records form range (parts_from v 0 (piece_counts most n))) (omega arith)
 
 pub records-none : (form : Form) (range most : ℕ) (v : PacketValue) (from : ℕ) → 1 ≤ most → length v.frames ≤ from
     → records_from form range most v from ≡ []
@@ -146,11 +141,6 @@ pub record HasWritten (form : Form) (range most : ℕ) (v : PacketValue) (from :
   pub appended : Appends old new text
   pub parts : piece_records form range (pieces most v) ≡ text ++ records_from form range most v from
 
-pub HasWritten-none : (form : Form) (range most : ℕ) (v : PacketValue) (old : Option (List ℕ))
-    → HasWritten form range most v 0 old old
-HasWritten-none form range most v old =
-    record { text = []; appended = Appends-nil old; parts = records-all form range most v }
-
 -- one more
 pub HasWritten-more : (form : Form) (range most : ℕ) (v : PacketValue) (from to : ℕ) (old mid new : Option (List ℕ))
     → 1 ≤ most → from < length v.frames → to ≡ from + min most (length v.frames - from)
@@ -179,14 +169,6 @@ HasWritten-front form range most v from to old mid new some left is w front =
     w.parts ∙ ap (λ l. w.text ++ l) (records-next form range most v from to some left is) in
     subst (λ l. Front l old new) (sym all)
     (Front-behind w.text (piece ++ behind) old mid new w.appended (Front-longer piece behind mid new front))
-
--- all of them
-pub HasWritten-all : (form : Form) (range most : ℕ) (v : PacketValue) (from : ℕ) (old new : Option (List ℕ))
-    → 1 ≤ most → length v.frames ≤ from → HasWritten form range most v from old new
-    → Appends old new (piece_records form range (pieces most v))
-HasWritten-all form range most v from old new some past w =
-    subst (Appends old new) (sym (w.parts ∙ ap (λ l. w.text ++ l) (records-none form range most v from some past)
-    ∙ append-nil w.text)) w.appended
 
 -- ---- the pieces as a repacketizer gives them out
 

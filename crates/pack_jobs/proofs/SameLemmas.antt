@@ -1,12 +1,11 @@
 -- What norm keeps of records: two texts are one exactly where the records agree one by one.
-use Rattle.std.proofs.Common.{◌≡◌, ◌↔◌, ℕ, ◌^◌, ◌<◌, ◌≤◌, List, [], ◌∷◌, ◌++◌, length, take, drop, map, flat_map, refl, sym, ap, ◌∙◌, subst, append-nil, length-append, take_at, arith}
+use Rattle.std.proofs.Common.{◌≡◌, ◌↔◌, ℕ, ◌^◌, ◌<◌, ◌≤◌, List, [], ◌∷◌, ◌++◌, length, map, flat_map, refl, sym, ap, ◌∙◌, subst, append-nil, length-append, take_at, arith}
 use Rattle.std.specs.List.{AllByRecursion}
-use Rattle.std.proofs.Math.Seq.{take-append_seam, drop-append_seam}
 use Rattle.job_loop.specs.Shown.{Shown}
 use Rattle.job_loop.specs.Meaning.{going, outcome}
 use Rattle.job_loop.specs.declared.input_end.InputEnd.{InputEnd}
 use Rattle.rec_store.specs.DemoStore.{demo_record, IsDemoRecord}
-use Rattle.rec_store.proofs.DemoLemmas.{demo_record-front, length-demo_record}
+use Rattle.rec_store.proofs.DemoLemmas.{demo_record-front, length-demo_record, fronts_same}
 use Rattle.opus_packet.specs.Value.{PacketValue, IsPacketValue}
 use Rattle.opus_packet.specs.SelfGrammar.{IsSelfDelimited, BeginsWithSelf}
 use Rattle.opus_packet.specs.Tail.{max_tail}
@@ -59,12 +58,6 @@ begins_with v tail bytes more is small e =
       );
     }
 
-fronts_by : (a b xs ys : List ℕ) → length a ≡ length b → a ++ xs ≡ b ++ ys → (a ≡ b) × (xs ≡ ys)
-fronts_by a b xs ys size e = (
-  sym (take-append_seam a xs) ∙ ap (take (length a)) e ∙ ap (λ n. take n (b ++ ys)) size ∙ take-append_seam b ys,
-  sym (drop-append_seam a xs) ∙ ap (drop (length a)) e ∙ ap (λ n. drop n (b ++ ys)) size ∙ drop-append_seam b ys,
-)
-
 self_fronts : (a b xs ys : List ℕ) → IsForm Delimited a → IsForm Delimited b → a ++ xs ≡ b ++ ys
     → (a ≡ b) × (xs ≡ ys)
 self_fronts a b xs ys p q e =
@@ -72,7 +65,7 @@ self_fronts a b xs ys p q e =
     let second = begins_with q.value q.tail b ys q.is_value q.small q.bytes_are in
     let size = begins_once p.value q.value _ _ (length a) (length b) (a ++ xs) first
     (subst (λ l. BeginsWithSelf q.value (keep_shape (map length q.value.frames) (length q.tail)) (length b) l) (sym e) second) in
-    fronts_by a b xs ys size e
+    fronts_same a b xs ys size e
 
 -- a packet has bytes
 
@@ -137,7 +130,7 @@ agree_text form (r ∷ rs) (s ∷ ss) agree =
 
 -- one text has agreeing records
 
-demo_none : (range : ℕ) (payload more : List ℕ) → [] ≡ demo_record range payload ++ more → ⊥
+pub demo_none : (range : ℕ) (payload more : List ℕ) → [] ≡ demo_record range payload ++ more → ⊥
 demo_none range payload more e = absurd (omega (arith, ap length e, length-append (demo_record range payload) more, length-demo_record range payload))
 
 store_agree : (rs ss : List (Shown Item)) → AllByRecursion IsStoreRecord rs → AllByRecursion IsStoreRecord ss

@@ -15,7 +15,7 @@ use Rattle.job_ends.specs.Refusal.{told, refusal_of}
 use Rattle.pack_jobs.specs.Written.{IsGood, AreGood, FirstBad}
 use Rattle.job_ends.specs.Each.{IsUncut, Made, IsWritten, AreWritten, RefusesWith, texts_from}
 use Rattle.pack_jobs.specs.Show.{show_found, show, record_lines, shown_from}
-use Rattle.job_ends.proofs.EachLemmas.{each_written, each_refused, each_cut}
+use Rattle.job_ends.proofs.EachLemmas.{each_written, each_refused, each_cut, all_written, written_all}
 
 abbrev made : ℕ → Shown Item → Made Why
 made number r = show_found (told number) r r.item.found
@@ -31,13 +31,10 @@ written_is number r Lost written = tt
 written_is number r (Bad fault) written = absurd written
 
 good_are : (number : ℕ) (rs : List (Shown Item)) → AreGood rs → AreWritten made number rs
-good_are number [] good = tt
-good_are number (r ∷ rs) good = (good_is (told number) r r.item.found good.0, good_are (number + 1) rs good.1)
+good_are = all_written made (λ (r : Shown Item). IsGood r.item.found) (λ number r. good_is (told number) r r.item.found)
 
 written_are : (number : ℕ) (rs : List (Shown Item)) → AreWritten made number rs → AreGood rs
-written_are number [] written = tt
-written_are number (r ∷ rs) written =
-    (written_is (told number) r r.item.found written.0, written_are (number + 1) rs written.1)
+written_are = written_all made (λ (r : Shown Item). IsGood r.item.found) (λ number r. written_is (told number) r r.item.found)
 
 texts_are : (number : ℕ) (rs : List (Shown Item)) → texts_from made number rs ≡ shown_from number rs
 texts_are number [] = refl

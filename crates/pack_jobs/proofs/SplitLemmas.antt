@@ -27,7 +27,7 @@ use Rattle.job_ends.specs.Refusal.{told, refusal_of}
 use Rattle.pack_jobs.specs.Written.{IsGood, AreGood, FirstBad}
 use Rattle.job_ends.specs.Each.{IsUncut, Made, IsWritten, AreWritten, RefusesWith, texts_from}
 use Rattle.pack_jobs.specs.Split.{piece_counts, pieces, split_found, split_record, split, HasFullPieces}
-use Rattle.job_ends.proofs.EachLemmas.{each_written, each_refused, each_cut}
+use Rattle.job_ends.proofs.EachLemmas.{each_written, each_refused, each_cut, all_written, written_all}
 use Rattle.pack_jobs.proofs.PieceLemmas.{counts_by}
 
 -- ---- records
@@ -47,14 +47,10 @@ written_is form most r Lost written = tt
 written_is form most r (Bad fault) written = absurd written
 
 good_are : (form : Form) (most number : ℕ) (rs : List (Shown Item)) → AreGood rs → AreWritten (made form most) number rs
-good_are form most number [] good = tt
-good_are form most number (r ∷ rs) good =
-    (good_is form most r r.item.found good.0, good_are form most (number + 1) rs good.1)
+good_are form most = all_written (made form most) (λ (r : Shown Item). IsGood r.item.found) (λ number r. good_is form most r r.item.found)
 
 written_are : (form : Form) (most number : ℕ) (rs : List (Shown Item)) → AreWritten (made form most) number rs → AreGood rs
-written_are form most number [] written = tt
-written_are form most number (r ∷ rs) written =
-    (written_is form most r r.item.found written.0, written_are form most (number + 1) rs written.1)
+written_are form most = written_all (made form most) (λ (r : Shown Item). IsGood r.item.found) (λ number r. written_is form most r r.item.found)
 
 texts_are : (form : Form) (most number : ℕ) (rs : List (Shown Item))
     → texts_from (made form most) number rs ≡ flat_map (split_record form most) rs

@@ -18,14 +18,15 @@ use Rattle.pack_records.specs.DemoRests.{some_shows}
 use Rattle.pack_records.specs.Framed.{Shows, end_records}
 use Rattle.pack_records.specs.Holds.{Reads, HoldsPacket, packet_record, lost_record}
 use Rattle.pack_records.proofs.DemoFronts.{undecided_short}
-use Rattle.pack_records.proofs.LentLemmas.{lent_value-form}
+use Rattle.pack_records.proofs.LentLemmas.{lent_value-form, tail-few}
 use Rattle.pack_records.proofs.ShowsLemmas.{none_first}
+use Rattle.pack_records.proofs.FormLemmas.{value_of}
 use Rattle.pack_jobs.specs.Records.{record_bytes}
 use Rattle.pack_jobs.specs.Groups.{listed, packet_in, values_of}
 use Rattle.pack_jobs.specs.PackEnds.{ends_in}
-use Rattle.pack_jobs.proofs.KeptBytes.{kept_of, kept_small}
+use Rattle.pack_jobs.proofs.KeptBytes.{kept_of}
 use Rattle.pack_jobs.proofs.StoreBytes.{record-are}
-use Rattle.pack_jobs.proofs.HeldLemmas.{framing_in, IsRangeIn, reads-value}
+use Rattle.pack_jobs.proofs.HeldLemmas.{framing_in, IsRangeIn}
 
 -- ---- what is written
 
@@ -222,7 +223,7 @@ read-value : (padding : Padding) (form : Form) (start : ℕ) (w : Wrote) → IsW
     → packet_in (read_at padding form start w).item.found (read_at padding form start w).bytes ≡ values_in w
 read-value padding form start (packet s) is =
     ap listed (lent_value-form (framing_in form) s.value (kept_of padding s.tail)
-    (reads-value (framing_in form) s.value s.shape s.tail s.bytes is.reads) (kept_small padding s.tail))
+    (value_of (framing_in form) s.value s.shape s.tail s.bytes is.reads) (tail-few padding s.tail))
 read-value padding form start (loss range) is = refl
 
 values-from : (padding : Padding) (form : Form) (at : ℕ) (ws : List Wrote) → AllByRecursion (IsWrote form) ws

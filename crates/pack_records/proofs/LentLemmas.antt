@@ -172,7 +172,7 @@ kept_few : (bytes : List ℕ) (b : Bool) → nat_le (length bytes) max_tail ≡ 
 kept_few bytes true few = leb-true (length bytes) max_tail few
 kept_few bytes false many = omega arith
 
-tail-few : (padding : Padding) (tail : List ℕ) → length (kept_bytes (tail_kept padding tail)) ≤ max_tail
+pub tail-few : (padding : Padding) (tail : List ℕ) → length (kept_bytes (tail_kept padding tail)) ≤ max_tail
 tail-few Drop [] = omega arith
 tail-few Drop (x ∷ xs) = omega arith
 tail-few Keep tail = kept_few tail _ refl

@@ -9,7 +9,7 @@ use Rattle.pack_records.specs.Payloads.{Deciding, Showing, IsShowing}
 use Rattle.pack_records.specs.Stores.{StoreRecord, store_of, IsStoreRecord, CutPayload, ShowsPayload, IsUndecided, ShowsRest, ShowsStore, IsStoreFront}
 use Rattle.pack_records.specs.StoreRests.{cut_once, part_more, early_whole}
 
-store_joined : (ps qs : List StoreRecord) → store_of (ps ++ qs) ≡ store_of ps ++ store_of qs
+pub store_joined : (ps qs : List StoreRecord) → store_of (ps ++ qs) ≡ store_of ps ++ store_of qs
 store_joined [] qs = refl
 store_joined (p ∷ ps) qs =
     ap (λ l. demo_record p.range p.payload ++ l) (store_joined ps qs)

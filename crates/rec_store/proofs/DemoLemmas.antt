@@ -1,13 +1,9 @@
 -- What stands at the front of an `opus_demo` store, and lemmas for a loop over its payload.
-use Rattle.std.proofs.Common.{◌≡◌, ℕ, ◌+◌, ◌-◌, ◌^◌, ◌<◌, ◌≤◌, List, [], ◌∷◌, ◌++◌, length, length-append, length-take, length-drop, take, drop, drop-drop, take-append-drop, refl, sym, ap, ◌∙◌, append_assoc, arith}
-use Rattle.std.proofs.lemmas.List.{length-take-le, drop_min}
+use Rattle.std.proofs.Common.{◌≡◌, ℕ, ◌+◌, ◌-◌, ◌^◌, ◌<◌, ◌≤◌, List, [], ◌∷◌, ◌++◌, length, length-append, length-drop, take, drop, drop-drop, take-append-drop, refl, sym, ap, ◌∙◌, append_assoc, arith}
+use Rattle.std.proofs.lemmas.List.{length-take-le}
 use Rattle.std.proofs.lemmas.Nat.{from_be_bytes-to_be_bytes_4}
-use Rattle.std.proofs.KnownBytes.{Consumes-trans, prepend_known-read}
-use Rattle.std.specs.declared.option.Option.{Option}
 use Rattle.std.specs.List.{AllByRecursion}
 use Rattle.std.specs.Int.{w32, to_be_bytes, from_be_bytes}
-use Rattle.std.specs.Io.KnownBytes.{Consumes, Keeps}
-use Rattle.opus_io.specs.Reader.{ReaderState, coming}
 use Rattle.rec_store.specs.DemoStore.{demo_head, demo_record, IsDemoRecord, NoWholeRecord}
 use Rattle.opus_io.proofs.BytesLemmas.{AreBytes-take, AreBytes-drop}
 use Rattle.rec_store.proofs.ByteLemmas.{number_of}
@@ -102,22 +98,3 @@ demo_head-of bytes are long =
           ∙ ap (λ l. range ++ l) behind)
           ∙ sym (append_assoc len range (drop 8 bytes)),
     )
-
--- a front that is dropped by its length
-front_and_rest : (n : ℕ) (xs : List ℕ) → xs ≡ take n xs ++ drop (length (take n xs)) xs
-front_and_rest n xs =
-    let same : drop (length (take n xs)) xs ≡ drop n xs =
-    ap (λ k. drop k xs) (length-take n xs) ∙ drop_min n xs in
-    sym (take-append-drop n xs) ∙ ap (λ l. take n xs ++ l) (sym same)
-
--- what `piece` showed, and was passed, came next
-pub Consumes-piece : (start left left' : Option (List ℕ)) (old looked passed : ReaderState) (taken shown : List ℕ) (n : ℕ)
-    → Consumes start (coming old left) taken → Keeps (coming old left) (coming looked left')
-    → shown ≡ take n looked.bytes → passed.bytes ≡ drop (length shown) looked.bytes
-    → Consumes start (coming passed left') (taken ++ shown)
-Consumes-piece start left left' old looked passed taken shown n before keeps is rest =
-    let front : looked.bytes ≡ shown ++ passed.bytes =
-    front_and_rest n looked.bytes ∙ ap (λ l. l ++ drop (length l) looked.bytes) (sym is)
-    ∙ ap (λ l. shown ++ l) (sym rest) in
-    Consumes-trans start (coming old left) (coming passed left') taken shown before
-    (prepend_known-read (coming old left) left' looked.bytes passed.bytes shown ⊥ keeps front (λ no. absurd no)).0

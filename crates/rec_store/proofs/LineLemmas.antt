@@ -156,6 +156,3 @@ line_part-more bytes (inr part) =
         fits = omega (arith, part.fits, length-append bytes (10 ∷ []));
       },
     )
-
-pub line_part-start : IsLinePart []
-line_part-start = inl record { others = dump_mark; some = omega arith; mark_is = refl }

@@ -19,7 +19,6 @@ use Rattle.rec_store.specs.declared.stop.StoreFault.TheVariants.{StoreCut, DumpL
 use Rattle.rec_store.specs.declared.stop.StoreStop.{StoreStop}
 use Rattle.rec_store.specs.declared.stop.StoreStop.TheVariants.{Fault, Read as ReadStop, Limit as LimitStop, NoMemory}
 use Rattle.opus_io.proofs.BytesLemmas.{AreBytes-append}
-use Rattle.rec_store.proofs.DumpLemmas.{short_same}
 use Rattle.rec_store.proofs.ItemLemmas.{tells_record, packet-taken}
 use Rattle.rec_store.proofs.PartLemmas.{record_part-nil, record_part-one, record_part-of}
 use Rattle.rec_store.proofs.TakeLemmas.{Passed-trans, Took-last}
@@ -205,12 +204,6 @@ read_behind old mid new left left' left'' came front bytes item packet is eight 
     last (inl few) = few
     last (inr same) =
         subst (λ (k : ReaderState). length k.bytes < 4096) (sym same) (Took-last 6 old mid left left' bytes before some)
-
--- the head's first number is the length
-pub same_length : (n : ℕ) (head : DumpRecordHead) (came bytes : List ℕ) → to_be_bytes w16 n ≡ came → n < 2 ^ 16
-    → head.length < 2 ^ 16 → head_bytes head ≡ came ++ bytes → head.length ≡ n
-same_length n head came bytes is fits p e =
-    short_same head.length n p fits (ap (take 2) e ∙ ap (λ l. take 2 (l ++ bytes)) (sym is))
 
 -- ---- a record from its first byte
 

@@ -1,9 +1,9 @@
 -- How bytes of a store are taken one after the other.
-use Rattle.std.proofs.Common.{◌≡◌, ◌≢◌, ◌⊎◌, inl, inr, ℕ, ◌+◌, ◌-◌, ◌<◌, ◌≤◌, List, [], ◌++◌, length, length-append, length-take, length-drop, take, drop, take-append-drop, refl, sym, ap, ◌∙◌, subst, Some, None, arith}
+use Rattle.std.proofs.Common.{◌≡◌, ◌≢◌, ◌⊎◌, inl, inr, ℕ, ◌+◌, ◌-◌, ◌<◌, ◌≤◌, List, [], ◌++◌, length, length-append, length-take, length-drop, take, drop, take-append-drop, sym, ap, ◌∙◌, subst, Some, None, arith}
 use Rattle.std.proofs.lemmas.List.{length-take-le, nil_from_length, take-take}
 use Rattle.std.specs.declared.option.Option.{Option}
 use Rattle.std.specs.Io.KnownBytes.{Consumes, IsAtEnd, prepend_known}
-use Rattle.std.proofs.KnownBytes.{Consumes-nil, Consumes-kept, Consumes-trans, prepend_known-read}
+use Rattle.std.proofs.KnownBytes.{Consumes-kept, Consumes-trans, prepend_known-read}
 use Rattle.opus_io.specs.Reader.{ReaderState, coming, Stays}
 use Rattle.rec_store.specs.DemoReader.{Passed, NothingComes, HeadCut}
 use Rattle.rec_store.specs.Taking.{Took}
@@ -15,14 +15,6 @@ pub record Begun (old new : ReaderState) (left left' : Option (List ℕ)) (bytes
   pub passed : new.passed ≡ old.passed + length bytes
   pub limit : new.limit ≡ old.limit
   pub turned : ((length new.bytes < 4096) × (new.passed ≤ new.limit)) ⊎ (new ≡ old)
-
-pub Begun-start : (k : ReaderState) (left : Option (List ℕ)) → Begun k k left left []
-Begun-start k left = record {
-  consumed = Consumes-nil (coming k left);
-  passed = omega arith;
-  limit = refl;
-  turned = inr refl;
-}
 
 -- a look ahead leaves what was passed
 pub Begun-looked : (old mid new : ReaderState) (left left' left'' : Option (List ℕ)) (bytes : List ℕ)

@@ -9,11 +9,6 @@ use Rattle.rtp_ends.specs.Holding.{AreSettled}
 use Rattle.rtp_ends.specs.Receives.{open_of}
 use Rattle.rtp_ends.proofs.OrderLemmas.{lt-other}
 
-pub settled-all : (top : ℕ) (xs : List Placed) → AreSettled top xs → settled top xs ≡ xs
-settled-all top [] all = refl
-settled-all top (x ∷ xs) all =
-    rw (le-leb (x.place + 32768) top all.0) (ap (λ l. x ∷ l) (settled-all top xs all.1))
-
 pub settled-none : (top : ℕ) (xs : List Placed) → AreWithin top xs → settled top xs ≡ []
 settled-none top [] all = refl
 settled-none top (x ∷ xs) all =

@@ -89,7 +89,7 @@ above_by greatest seq false test =
     let far : 32768 < ahead_of greatest seq = search (arith, test) in
     omega arith
 
-place_after-above : (greatest seq : ℕ) → greatest < place_after greatest seq + 32768
+pub place_after-above : (greatest seq : ℕ) → greatest < place_after greatest seq + 32768
 unfolding place_after
 place_after-above greatest seq = above_by greatest seq (nat_le (ahead_of greatest seq) 32768) refl
 

@@ -1,19 +1,16 @@
 -- Numbers of two and four bytes, the highest first.
 use Rattle.std.proofs.Common.{◌≡◌, ℕ, ◌+◌, ◌*◌, ◌/◌, ◌%◌, ◌^◌, ◌≤◌, ◌<◌, List, [], ◌∷◌, ◌++◌, length, take, drop, drop-drop, take-append-drop, length-drop, sym, ap, ◌∙◌, refl, arith}
-use Rattle.std.proofs.lemmas.List.{get_or-drop}
 use Rattle.std.specs.Int.{w16, w32, to_be_bytes}
 use Rattle.byteorder.specs.Endian.{big_number}
+use Rattle.opus_io.proofs.BytesLemmas.{AreBytes-at, AreBytes-drop}
 use Rattle.rtp_packet.specs.RtpValue.{AreBytes}
-
-pub AreBytes-drop : (n : ℕ) (xs : List ℕ) → AreBytes xs → AreBytes (drop n xs)
-AreBytes-drop n xs bytes i = rw (get_or-drop n xs i 0) (bytes (n + i))
 
 to_be_bytes-two : (xs : List ℕ) → 2 ≤ length xs → AreBytes xs → to_be_bytes w16 (big_number 2 xs) ≡ take 2 xs
 to_be_bytes-two [] long bytes = absurd (omega arith)
 to_be_bytes-two (a ∷ []) long bytes = absurd (omega arith)
 to_be_bytes-two (a ∷ b ∷ xs) long bytes =
-    let p : a < 256 = bytes 0 in
-    let q : b < 256 = bytes 1 in
+    let p : a < 256 = bytes.0 in
+    let q : b < 256 = bytes.1.0 in
     let n = a * 256 + (b * 1 + 0) in
     let high : n / 256 % 256 ≡ a = omega arith in
     let low : n % 256 ≡ b = omega arith in
@@ -25,10 +22,10 @@ to_be_bytes-four (a ∷ []) long bytes = absurd (omega arith)
 to_be_bytes-four (a ∷ b ∷ []) long bytes = absurd (omega arith)
 to_be_bytes-four (a ∷ b ∷ c ∷ []) long bytes = absurd (omega arith)
 to_be_bytes-four (a ∷ b ∷ c ∷ d ∷ xs) long bytes =
-    let p : a < 256 = bytes 0 in
-    let q : b < 256 = bytes 1 in
-    let r : c < 256 = bytes 2 in
-    let s : d < 256 = bytes 3 in
+    let p : a < 256 = bytes.0 in
+    let q : b < 256 = bytes.1.0 in
+    let r : c < 256 = bytes.1.1.0 in
+    let s : d < 256 = bytes.1.1.1.0 in
     let n = a * 16777216 + (b * 65536 + (c * 256 + (d * 1 + 0))) in
     let first : n / 16777216 % 256 ≡ a = omega arith in
     let second : n / 65536 % 256 ≡ b = omega arith in
@@ -56,16 +53,16 @@ drop-four n xs within bytes =
 
 pub big_number-two : (xs : List ℕ) → AreBytes xs → big_number 2 xs < 2 ^ 16
 big_number-two xs bytes =
-    let p = bytes 0 in
-    let q = bytes 1 in
+    let p = AreBytes-at xs bytes 0 in
+    let q = AreBytes-at xs bytes 1 in
     omega arith
 
 pub big_number-four : (xs : List ℕ) → AreBytes xs → big_number 4 xs < 2 ^ 32
 big_number-four xs bytes =
-    let p = bytes 0 in
-    let q = bytes 1 in
-    let r = bytes 2 in
-    let s = bytes 3 in
+    let p = AreBytes-at xs bytes 0 in
+    let q = AreBytes-at xs bytes 1 in
+    let r = AreBytes-at xs bytes 2 in
+    let s = AreBytes-at xs bytes 3 in
     omega arith
 
 -- a number is read back

@@ -1,17 +1,17 @@
 -- Bytes in which no check fails are the spelling of what they say.
-use Rattle.std.proofs.Common.{◌≡◌, ℕ, ◌+◌, ◌*◌, ◌-◌, ◌/◌, ◌%◌, ◌^◌, ◌≤◌, ◌<◌, true, false, not, ◌==◌, List, ◌∷◌, ◌++◌, length, slice_index, drop, length-take, length-drop, append_assoc, Some, None, is_some, sym, ap, ◌∙◌, subst, ⊎_elim, add-one, arith}
+use Rattle.std.proofs.Common.{◌≡◌, ℕ, ◌+◌, ◌*◌, ◌-◌, ◌/◌, ◌%◌, ◌^◌, ◌≤◌, ◌<◌, true, false, not, ◌==◌, List, ◌∷◌, ◌++◌, length, slice_index, drop, length-take, length-drop, append_assoc, Some, None, is_some, sym, ap, ◌∙◌, subst, ⊎_elim, arith}
 use Rattle.std.specs.Int.{w16, w32, to_be_bytes}
 use Rattle.std.specs.List.{slice_range}
-use Rattle.std.proofs.Math.Seq.{drop-cons}
 use Rattle.std.proofs.lemmas.List.{get_or-drop}
 use Rattle.std.proofs.lemmas.List.Folds.{drop_split}
 use Rattle.std.proofs.lemmas.Bool.{eqb-true, eqb-false, eq-eqb, ne_eqb, cases_Bool, cond-true, cond-false}
 use Rattle.byteorder.specs.Endian.{big_number}
+use Rattle.opus_io.proofs.BytesLemmas.{AreBytes-at, AreBytes-drop, drop-byte}
 use Rattle.rtp_packet.specs.RtpValue.{Extension, IsExtension, AreBytes}
 use Rattle.rtp_packet.specs.RtpBytes.{bit, first_byte, front_bytes, extension_bytes, IsPadding, IsRtp}
 use Rattle.rtp_packet.specs.RtpFault.{has_padding, has_extension, csrc_count, csrc_end, extension_words, header_size, last_byte, padding_in}
 use Rattle.rtp_packet.specs.Checks.{extension_in, rtp_in}
-use Rattle.rtp_packet.proofs.NumberLemmas.{AreBytes-drop, drop-two, drop-four, big_number-two, big_number-four}
+use Rattle.rtp_packet.proofs.NumberLemmas.{drop-two, drop-four, big_number-two, big_number-four}
 use Rattle.rtp_packet.proofs.CheckLemmas.{Passes, header_size-plain, header_size-extended, csrc-in-header}
 
 -- the bits of the first byte
@@ -51,16 +51,13 @@ first-is : (bytes : List ℕ) → Passes bytes → AreBytes bytes → slice_inde
 first-is bytes is are =
     let padding = ap bit (padding-bit bytes is) ∙ bit-of (slice_index bytes 0 / 32) in
     let extension = ap bit (extension-bit bytes) ∙ bit-of (slice_index bytes 0 / 16) in
-    omega (arith, padding, extension, length-csrc bytes is, is.version, are 0)
+    omega (arith, padding, extension, length-csrc bytes is, is.version, AreBytes-at bytes are 0)
 
 second-is : (b : ℕ) → b < 2 ^ 8 → b ≡ 128 * bit (b / 128 == 1) + b % 128
 second-is b fits = ⊎_elim
     (λ (one : (b / 128 == 1) ≡ true). rw one (let e = eqb-true (b / 128) 1 one in omega arith))
     (λ (other : (b / 128 == 1) ≡ false). rw other (let e = eqb-false (b / 128) 1 other in omega arith))
     (cases_Bool (b / 128 == 1))
-
-drop-byte : (n : ℕ) (xs : List ℕ) → n < length xs → drop n xs ≡ slice_index xs n ∷ drop (n + 1) xs
-drop-byte n xs within = rw (add-one n) (drop-cons xs n 0 within)
 
 front-is : (bytes : List ℕ) → Passes bytes → AreBytes bytes → bytes ≡ front_bytes (rtp_in bytes) ++ drop 12 bytes
 front-is bytes is are =
@@ -70,7 +67,7 @@ front-is bytes is are =
     let stamp = drop-four 4 bytes (omega arith) are ∙ ap (λ l. to_be_bytes w32 p.stamp ++ l) ssrc in
     let seq = drop-two 2 bytes (omega arith) are ∙ ap (λ l. to_be_bytes w16 p.seq ++ l) stamp in
     let second = drop-byte 1 bytes (omega arith)
-    ∙ ap (λ b. b ∷ drop 2 bytes) (second-is (slice_index bytes 1) (are 1)) ∙ ap (λ l. (128 * bit p.marker + p.payload_type) ∷ l) seq in
+    ∙ ap (λ b. b ∷ drop 2 bytes) (second-is (slice_index bytes 1) (AreBytes-at bytes are 1)) ∙ ap (λ l. (128 * bit p.marker + p.payload_type) ∷ l) seq in
     drop-byte 0 bytes (omega arith) ∙ ap (λ b. b ∷ drop 1 bytes) (first-is bytes is are) ∙ ap (λ l. first_byte p ∷ l) second
 
 -- the extension and what follows it
@@ -146,7 +143,7 @@ counted bytes is =
 
 padding_in-byte : (bytes : List ℕ) → AreBytes bytes → padding_in bytes < 2 ^ 8
 padding_in-byte bytes are = ⊎_elim
-    (λ some. let e = padding_in-some bytes some in omega (arith, are (length bytes - 1)))
+    (λ some. let e = padding_in-some bytes some in omega (arith, AreBytes-at bytes are (length bytes - 1)))
     (λ none. let e = padding_in-none bytes none in omega arith)
     (cases_Bool (has_padding bytes))
 

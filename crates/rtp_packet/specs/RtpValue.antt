@@ -1,5 +1,6 @@
 -- What an RTP packet says, and what it can say (RFC 3550, 5.1 and 5.3.1).
-use Rattle.std.specs.Prelude.{◌≡◌, ℕ, ◌/◌, ◌%◌, ◌^◌, ◌<◌, ◌≤◌, Bool, List, length, slice_index, Option, None, Some}
+pub use Rattle.opus_io.specs.Bytes.{AreBytes}
+use Rattle.std.specs.Prelude.{◌≡◌, ℕ, ◌/◌, ◌%◌, ◌^◌, ◌<◌, ◌≤◌, Bool, List, length, Option, None, Some}
 
 -- a header extension: the 16 bits that its profile defines, and its words of 32 bits as bytes (5.3.1)
 pub record Extension : Type 0 where
@@ -18,9 +19,6 @@ pub record RtpValue : Type 0 where
   pub extension : Option Extension
   pub payload : List ℕ
   pub padding : ℕ
-
-abbrev pub AreBytes : List ℕ → Type 0
-AreBytes bytes = (i : ℕ) → slice_index bytes i < 2 ^ 8
 
 -- words of 32 bits, at most so many
 pub record AreWords (most : ℕ) (bytes : List ℕ) : Type 0 where

@@ -14,13 +14,14 @@ use Rattle.opus_multi.specs.Forms.{IsKeptValue, kept_self_of, kept_multistream}
 use Rattle.opus_multi.proofs.FormsLemmas.{kept_multistream-unique}
 use Rattle.opus_words.specs.declared.form.Form.{Form}
 use Rattle.opus_words.specs.declared.form.Form.TheVariants.{Raw, Demo, SelfDelimited}
-use Rattle.rec_store.specs.DemoStore.{demo_record, IsDemoRecord}
-use Rattle.rec_store.proofs.DemoLemmas.{demo_record-front, length-demo_record}
+use Rattle.rec_store.specs.DemoStore.{IsDemoRecord}
+use Rattle.rec_store.proofs.DemoLemmas.{demo_record-front}
 use Rattle.pack_records.specs.declared.cut.Cut.{Cut}
+use Rattle.pack_records.proofs.LentLemmas.{tail-few}
 use Rattle.job_ends.specs.Refusal.{told}
 use Rattle.pack_jobs.specs.Records.{record_bytes}
 use Rattle.pack_jobs.proofs.FormSizes.{form_sizes}
-use Rattle.pack_jobs.proofs.KeptBytes.{kept_small}
+use Rattle.pack_jobs.proofs.SameLemmas.{demo_none}
 use Rattle.stream_records.specs.declared.item.StreamsItem.{StreamsItem}
 use Rattle.stream_records.specs.Holds.{Choices, held_as}
 use Rattle.stream_jobs.specs.declared.refusal.StreamWhy.{StreamWhy}
@@ -36,9 +37,9 @@ use Rattle.stream_jobs.specs.Refusal.{cut_refusal}
 first_values : (padding : Padding) (ss : List SpelledStream) (last : SpelledStream) (bytes rest : List ℕ)
     → StandFirst ss bytes rest → IsPacketValue last.value
     → AllByRecursion IsKeptValue (map (held_as padding) (ss ++ last ∷ []))
-first_values padding [] last bytes rest h is = (record { value = is; tail = kept_small padding last.tail }, tt)
+first_values padding [] last bytes rest h is = (record { value = is; tail = tail-few padding last.tail }, tt)
 first_values padding (s ∷ ss) last bytes rest h is = (
-  record { value = h.0.spelled.value; tail = kept_small padding s.tail },
+  record { value = h.0.spelled.value; tail = tail-few padding s.tail },
   first_values padding ss last (drop s.size bytes) rest h.1 is,
 )
 
@@ -156,10 +157,6 @@ has_held : (c : Choices) (range : ℕ) (o : Option (List HeldRead)) (r : Shown S
     → IsHeld c.streams o
 has_held c range None r has = tt
 has_held c range (Some hs) r has = are_held c range hs r has
-
-demo_none : (range : ℕ) (payload more : List ℕ) → [] ≡ demo_record range payload ++ more → ⊥
-demo_none range payload more e =
-    absurd (omega (arith, ap (λ (l : List ℕ). length l) e, length-append (demo_record range payload) more, length-demo_record range payload))
 
 stored_same : (c d : Choices) (rs ss : List (Shown StreamsItem)) (xs ys : List Content) → c.streams ≤ 255 → d.streams ≡ c.streams → AreStored c rs xs
     → AreStored d ss ys → flat_map (content_text Demo) xs ≡ flat_map (content_text Demo) ys → xs ≡ ys

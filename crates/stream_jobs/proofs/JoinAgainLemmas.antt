@@ -1,5 +1,5 @@
 -- What apart wrote is a store that join takes.
-use Rattle.std.proofs.Common.{◌≡◌, ℕ, ◌+◌, ◌≤◌, List, [], ◌∷◌, ◌++◌, length, map, Option, None, inl, inr, refl, sym, ap, ◌∙◌, subst, append_assoc}
+use Rattle.std.proofs.Common.{◌≡◌, ℕ, ◌+◌, ◌≤◌, List, [], ◌∷◌, ◌++◌, length, map, Option, None, inl, inr, refl, sym, ap, ◌∙◌, subst}
 use Rattle.std.proofs.lemmas.List.{length-map}
 use Rattle.std.specs.List.{AllByRecursion}
 use Rattle.job_loop.specs.Shown.{Shown}
@@ -10,6 +10,7 @@ use Rattle.opus_packet.specs.Value.{PacketValue}
 use Rattle.opus_packet.specs.PacketPrefix.{AreBytes}
 use Rattle.opus_packet.proofs.BytesLemmas.{AreBytes-left, AreBytes-right}
 use Rattle.pack_records.specs.Demo.{StoreRecord, store_of}
+use Rattle.pack_records.proofs.StoreFronts.{store_joined}
 use Rattle.stream_records.specs.declared.item.StreamsItem.{StreamsItem}
 use Rattle.stream_records.specs.Demo as streams_demo
 use Rattle.job_ends.specs.Each.{text_of, texts_from, IsWritten, AreWritten}
@@ -25,12 +26,6 @@ use Rattle.stream_jobs.proofs.OwnStores.{AreOwn, stored, records_from, store_end
 use Rattle.stream_jobs.proofs.RecordGroups.{norm_made, HasGroup, dropping, one_group}
 
 -- ---- and of all
-
-store_of-append : (a b : List StoreRecord) → store_of (a ++ b) ≡ store_of a ++ store_of b
-store_of-append [] b = refl
-store_of-append (r ∷ a) b =
-    ap (λ l. demo_record r.range r.payload ++ l) (store_of-append a b)
-    ∙ sym (append_assoc (demo_record r.range r.payload) (store_of a) (store_of b))
 
 map_both : {A B : Type 0} → (f : A → B) (a b : List A) → map f (a ++ b) ≡ map f a ++ map f b
 map_both f [] b = refl
@@ -79,7 +74,7 @@ more_groups streams number r rs g gs =
       );
       apart_text = ap (λ m. text_of m ++ texts_from (apart_made streams) (number + 1) rs) first
           ∙ ap (λ l. store_of (map stored g.values) ++ l) gs.apart_text
-          ∙ sym (store_of-append (map stored g.values) (map stored gs.values))
+          ∙ sym (store_joined (map stored g.values) (map stored gs.values))
           ∙ ap store_of (sym (map_both stored g.values gs.values));
       norm_written = (subst IsWritten (sym normal) tt, gs.norm_written);
       norm_text = ap (λ m. text_of m ++ texts_from (norm_made streams) (number + 1) (map (with_range 0) rs)) normal

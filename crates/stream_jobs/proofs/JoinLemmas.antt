@@ -1,5 +1,5 @@
 -- Groups of records: one record more, and a full group as it is written.
-use Rattle.std.proofs.Common.{◌≡◌, ℕ, ◌+◌, ◌-◌, ◌^◌, min, ◌<◌, ◌≤◌, Bool, true, false, nat_lt, if◌then◌else◌, List, [], ◌∷◌, ◌++◌, length, flat_map, bit_xor, Option, None, Some, Result, Ok, Err, OnOk, refl, ap, sym, subst, ◌∙◌, arith, append_assoc, length-append}
+use Rattle.std.proofs.Common.{◌≡◌, ℕ, ◌+◌, ◌-◌, ◌^◌, min, ◌<◌, ◌≤◌, Bool, true, false, nat_lt, if◌then◌else◌, List, [], ◌∷◌, ◌++◌, length, flat_map, bit_xor, Option, None, Some, Result, Ok, Err, OnOk, refl, ap, sym, subst, ◌∙◌, arith, length-append}
 use Rattle.std.proofs.lemmas.Bool.{ltb-true, lt-ltb}
 use Rattle.std.proofs.lemmas.List.{append-nil}
 use Rattle.std.specs.Io.KnownBytes.{Appends}
@@ -13,6 +13,7 @@ use Rattle.opus_multi.proofs.WriteLemmas.{forms_push}
 use Rattle.pack_records.specs.declared.item.Item.{Item}
 use Rattle.rec_store.specs.DemoStore.{demo_head}
 use Rattle.job_ends.specs.Refusal.{told}
+use Rattle.stream_records.proofs.TurnLemmas.{flat_push}
 use Rattle.stream_jobs.specs.declared.join.Join.{Join}
 use Rattle.stream_jobs.specs.Join.{Part, part_of, values_of, ranges_of, packets_in, xor_behind, xor_of, joined, differs, differs_in, full_text, next_group, JoinKept, kept_of, group_goes, join_held, held_in}
 use Rattle.stream_jobs.specs.JoinParts.{form_at, samples_in}
@@ -47,10 +48,6 @@ pub group_xor : (group : List Part) (v : Option PacketValue) (range : ℕ)
     → xor_of (ranges_of (group ++ part_of v range ∷ [])) ≡ bit_xor (xor_of (ranges_of group)) range
 group_xor group v range =
     ap xor_of (ranges_push group (part_of v range)) ∙ xor_push 0 (ranges_of group) range
-
-flat_push : {A : Type 0} (f : A → List ℕ) (xs : List A) (x : A) → flat_map f (xs ++ x ∷ []) ≡ flat_map f xs ++ f x
-flat_push f [] x = append-nil (f x)
-flat_push f (y ∷ ys) x = ap (λ l. f y ++ l) (flat_push f ys x) ∙ sym (append_assoc (f y) (flat_map f ys) (f x))
 
 -- the self-delimited forms of one record more
 pub fronts_push : (vs : List (Option PacketValue)) (v : Option PacketValue)

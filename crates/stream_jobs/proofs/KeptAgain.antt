@@ -21,11 +21,12 @@ use Rattle.opus_multi.specs.Forms.{kept_self_of, kept_multistream}
 use Rattle.opus_words.specs.declared.form.Form.{Form}
 use Rattle.job_ends.specs.Refusal.{told}
 use Rattle.pack_jobs.proofs.FormBytes.{form-are}
-use Rattle.pack_jobs.proofs.KeptBytes.{kept_of, kept_again, kept_small, kept_are}
+use Rattle.pack_jobs.proofs.KeptBytes.{kept_of, kept_again, kept_are}
 use Rattle.stream_records.specs.declared.item.StreamsItem.{StreamsItem}
 use Rattle.stream_records.specs.Holds.{Choices, HoldsStreams, held_as, packets_record}
 use Rattle.stream_records.proofs.LentLemmas.{lent_values}
 use Rattle.job_ends.specs.Each.{IsWritten}
+use Rattle.pack_records.proofs.LentLemmas.{tail-few}
 use Rattle.stream_jobs.specs.Contents.{HoldsHeld}
 use Rattle.stream_jobs.proofs.LawLemmas.{norm-held}
 use Rattle.stream_jobs.proofs.AgreeLemmas.{norm_made}
@@ -127,7 +128,7 @@ few_again padding [] (t ∷ ts) tails = let e = tails in cc
 few_again padding (s ∷ ss) (t ∷ ts) tails =
     let tail : kept_of padding s.tail ≡ t.tail = cc in
     let rest : kept_tails padding ss ≡ tails_in ts = cc in
-    (subst (λ l. length l ≤ max_tail) tail (kept_small padding s.tail), few_again padding ss ts rest)
+    (subst (λ l. length l ≤ max_tail) tail (tail-few padding s.tail), few_again padding ss ts rest)
 
 abbrev pub held_in : (c : Choices) (start range : ℕ) (bytes : List ℕ) (r : Shown StreamsItem) → HoldsStreams c start range bytes r
     → List HeldRead

@@ -10,13 +10,13 @@ pub mod ApartLemmas
 pub mod StreamLemmas
 pub mod LawLemmas
 pub mod ShowLemmas
-pub mod ApartJoined
 pub mod AgreeLemmas
 pub mod ContentsLemmas
 pub mod PaddingLemmas
 pub mod ApartTaken
 pub mod OwnStores
 pub mod RecordGroups
+pub mod ApartJoined
 pub mod JoinAgainLemmas
 pub mod KeptAgain
 pub mod NormAgainLemmas

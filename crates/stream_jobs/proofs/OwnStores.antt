@@ -1,6 +1,6 @@
 -- A store of canonical packets, and lost ones, with range 0, and its records as parts of groups.
 use Rattle.std.proofs.Common.{◌≡◌, ℕ, ◌+◌, List, [], ◌∷◌, length, map, Option, None, Some, Ok, inl, inr, refl, sym, ap, ◌∙◌, subst, append-nil, arith}
-use Rattle.std.specs.List.{AllByRecursion, concat}
+use Rattle.std.specs.List.{AllByRecursion}
 use Rattle.job_loop.specs.Shown.{Shown}
 use Rattle.rec_store.specs.DemoStore.{demo_record}
 use Rattle.rec_store.proofs.DemoLemmas.{NoWholeRecord-short}
@@ -24,20 +24,16 @@ use Rattle.pack_records.proofs.LentLemmas.{lent_value-spelled}
 use Rattle.pack_jobs.proofs.FormSizes.{form_sizes}
 use Rattle.pack_jobs.proofs.FormBytes.{form-are}
 use Rattle.pack_jobs.proofs.StoreBytes.{record-are}
+use Rattle.pack_jobs.proofs.FramesAgain.{IsByteValue}
 use Rattle.stream_jobs.specs.JoinParts.{samples_in}
 use Rattle.stream_jobs.specs.Join.{Part, part_of, values_of, ranges_of, packets_in, xor_of, joined}
 use Rattle.stream_jobs.specs.JoinGroups.{IsPart, AreParts}
 
 -- ---- a store of canonical packets, and lost ones, with range 0
 
--- a value whose frames are bytes
-pub record IsOwn (v : PacketValue) : Type 0 where
-  pub value : IsPacketValue v
-  pub frames : AreBytes (concat v.frames)
-
 abbrev pub AreOwn : Option PacketValue → Type 0
 AreOwn None = Unit {0}
-AreOwn (Some v) = IsOwn v
+AreOwn (Some v) = IsByteValue v
 
 abbrev payload_of : Option PacketValue → List ℕ
 payload_of None = []

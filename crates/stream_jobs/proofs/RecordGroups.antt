@@ -24,6 +24,7 @@ use Rattle.job_ends.specs.Refusal.{told}
 use Rattle.stream_records.specs.declared.item.StreamsItem.{StreamsItem}
 use Rattle.stream_records.specs.Holds.{Choices, HoldsStreams, held_as, lost_record}
 use Rattle.stream_records.specs.Demo as streams_demo
+use Rattle.pack_jobs.proofs.FramesAgain.{IsByteValue}
 use Rattle.stream_jobs.specs.declared.refusal.StreamWhy.{StreamWhy}
 use Rattle.stream_jobs.specs.Each.{made_of}
 use Rattle.job_ends.specs.Each.{Made, writes, IsWritten}
@@ -36,7 +37,7 @@ use Rattle.stream_jobs.proofs.LawLemmas.{apart-held, norm-dropped}
 use Rattle.stream_jobs.proofs.ContentsLemmas.{made_good}
 use Rattle.stream_jobs.proofs.PaddingLemmas.{bare_held}
 use Rattle.stream_jobs.proofs.ApartTaken.{apart_made}
-use Rattle.stream_jobs.proofs.OwnStores.{IsOwn, AreOwn, stored}
+use Rattle.stream_jobs.proofs.OwnStores.{AreOwn, stored}
 
 -- ---- what becomes of one record
 
@@ -91,21 +92,21 @@ lost_group streams start range = record {
 
 -- a multistream packet
 
-own_self : (v : PacketValue) (shape : Shape) (tail bytes : List ℕ) → IsSelfDelimited v shape tail bytes → AreBytes bytes → IsOwn v
+own_self : (v : PacketValue) (shape : Shape) (tail bytes : List ℕ) → IsSelfDelimited v shape tail bytes → AreBytes bytes → IsByteValue v
 own_self v shape tail bytes is are =
     let front = AreBytes-left (self_header_bytes v shape ++ concat v.frames) tail (subst AreBytes is.spelled are) in
     record { value = is.value; frames = AreBytes-right (self_header_bytes v shape) (concat v.frames) front }
 
-own_whole : (v : PacketValue) (shape : Shape) (tail bytes : List ℕ) → IsPacket v shape tail bytes → AreBytes bytes → IsOwn v
+own_whole : (v : PacketValue) (shape : Shape) (tail bytes : List ℕ) → IsPacket v shape tail bytes → AreBytes bytes → IsByteValue v
 own_whole v shape tail bytes is are =
     let front = AreBytes-left (header_bytes (header_for v shape) ++ concat v.frames) tail (subst AreBytes is.spelled are) in
     record { value = is.value; frames = AreBytes-right (header_bytes (header_for v shape)) (concat v.frames) front }
 
-abbrev some_values : List SpelledStream → List (Option PacketValue)
+abbrev pub some_values : List SpelledStream → List (Option PacketValue)
 some_values ss = map (λ s. Some s.value) ss
 
 own_by : (ss : List SpelledStream) (last : SpelledStream) (bytes rest : List ℕ) → StandFirst ss bytes rest → AreBytes bytes
-    → (AreBytes rest → IsOwn last.value) → AllByRecursion AreOwn (some_values (ss ++ last ∷ []))
+    → (AreBytes rest → IsByteValue last.value) → AllByRecursion AreOwn (some_values (ss ++ last ∷ []))
 own_by [] last bytes rest stand are ends = (ends (subst AreBytes stand are), tt)
 own_by (s ∷ ss) last bytes rest stand are ends = (
   own_self s.value s.shape s.tail (take s.size bytes) stand.0.spelled (AreBytes-take s.size bytes are),
@@ -140,7 +141,7 @@ canonical-bare [] = refl
 canonical-bare (v ∷ []) = kept_form-nil v
 canonical-bare (v ∷ w ∷ vs) = rw (sym (canonical-bare (w ∷ vs)), kept_self-nil v) refl
 
-some_form : (ss : List SpelledStream)
+pub some_form : (ss : List SpelledStream)
     → kept_multistream (map (held_as Drop) ss) ≡ canonical_multistream (packets_in (some_values ss))
 some_form ss =
     ap kept_multistream (bare_held ss) ∙ canonical-bare (map (λ s. s.value) ss) ∙ ap canonical_multistream (some_packets ss)
@@ -148,7 +149,7 @@ some_form ss =
 abbrev pub dropping : ℕ → Choices
 dropping streams = record { streams = streams; padding = Drop }
 
-ranged : (streams start range : ℕ) (bytes : List ℕ) (r : Shown StreamsItem) → HoldsStreams (dropping streams) start range bytes r
+unfoldable pub ranged : (streams start range : ℕ) (bytes : List ℕ) (r : Shown StreamsItem) → HoldsStreams (dropping streams) start range bytes r
     → HoldsStreams (dropping streams) start 0 bytes (with_range 0 r)
 ranged streams start range bytes r holds = record {
   streams = holds.streams;

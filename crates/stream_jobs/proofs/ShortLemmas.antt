@@ -135,7 +135,7 @@ store_place at (s ∷ ss) (r ∷ rs) shows good =
       sizes : (n m k all : ℕ) → all ≡ 8 + m + k → n + (8 + m) + k ≡ n + all
       sizes n m k all e = omega (arith, e)
 
-whole_store : (place : ℕ) (rest : List ℕ) → None ≡ cut_at place rest → rest ≡ []
+pub whole_store : (place : ℕ) (rest : List ℕ) → None ≡ cut_at place rest → rest ≡ []
 whole_store place [] e = refl
 whole_store place (b ∷ bs) e = let f = e in cc
 

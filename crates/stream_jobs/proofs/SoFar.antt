@@ -1,7 +1,7 @@
 -- A text that is written piece by piece.
-use Rattle.std.proofs.Common.{◌≡◌, ℕ, List, [], ◌++◌, Option, refl, sym, ap, ◌∙◌, subst, append-nil, append_assoc}
+use Rattle.std.proofs.Common.{◌≡◌, ℕ, List, [], ◌++◌, Option, sym, ap, ◌∙◌, subst, append-nil, append_assoc}
 use Rattle.std.specs.Io.KnownBytes.{Appends}
-use Rattle.std.proofs.KnownBytes.{Appends-nil, Appends-trans}
+use Rattle.std.proofs.KnownBytes.{Appends-trans}
 use Rattle.job_loop.specs.Telling.{Front}
 use Rattle.job_loop.proofs.RunLemmas.{Front-behind, Front-longer}
 
@@ -10,9 +10,6 @@ pub record SoFar (whole rest : List ℕ) (old new : Option (List ℕ)) : Type 0 
   pub text : List ℕ
   pub appended : Appends old new text
   pub parts : whole ≡ text ++ rest
-
-pub SoFar-none : (whole : List ℕ) (old : Option (List ℕ)) → SoFar whole whole old old
-SoFar-none whole old = record { text = []; appended = Appends-nil old; parts = refl }
 
 -- one piece more
 pub SoFar-more : (whole left piece rest : List ℕ) (old mid new : Option (List ℕ)) → left ≡ piece ++ rest

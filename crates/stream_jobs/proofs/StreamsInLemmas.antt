@@ -96,12 +96,6 @@ streams-first left behind bytes o v used left_is value is used_is =
     ∙ ap (λ w. first_then w (streams_in behind (drop (first_size (framing_before behind) bytes) bytes))) (sym value ∙ is)
     ∙ ap (λ n. v ∷ streams_in behind (drop n bytes)) (sym used_is)
 
-pub streams-none : (left behind : ℕ) (bytes : List ℕ) (o : Option PacketValue) → left ≡ suc behind
-    → o ≡ first_value (framing_before behind) bytes → o ≡ None → streams_in left bytes ≡ []
-streams-none left behind bytes o left_is value is =
-    ap (λ n. streams_in n bytes) left_is
-    ∙ ap (λ w. first_then w (streams_in behind (drop (first_size (framing_before behind) bytes) bytes))) (sym value ∙ is)
-
 -- the last one is all of the bytes that are left
 last-alone : (s : SpelledStream) (bytes rest : List ℕ) → bytes ≡ rest → IsLastStream s rest
     → streams_in 1 bytes ≡ s.value ∷ []

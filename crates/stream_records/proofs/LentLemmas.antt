@@ -1,13 +1,12 @@
 -- The bytes that are lent of packets are a multistream packet of the same values.
-use Rattle.std.proofs.Common.{◌≡◌, ℕ, ◌≤◌, Bool, true, false, nat_le, if◌then◌else◌, List, [], ◌∷◌, ◌++◌, length, map, drop, refl, sym, ap, ◌∙◌, subst, leb-true, arith, length-append}
+use Rattle.std.proofs.Common.{◌≡◌, ℕ, ◌≤◌, List, [], ◌∷◌, ◌++◌, length, map, drop, refl, sym, ap, ◌∙◌, subst, arith, length-append}
 use Rattle.std.proofs.lemmas.List.{length-map}
 use Rattle.std.specs.List.{AllByRecursion}
 use Rattle.job_loop.specs.Shown.{Shown}
 use Rattle.opus_packet.specs.Value.{IsPacketValue, duration_of}
 use Rattle.opus_packet.specs.Held.{HeldRead}
-use Rattle.opus_packet.specs.Tail.{kept, counted, kept_bytes, max_tail}
+use Rattle.opus_packet.specs.Tail.{kept, counted, kept_bytes}
 use Rattle.opus_feed.specs.declared.padding.Padding.{Padding}
-use Rattle.opus_feed.specs.declared.padding.Padding.TheVariants.{Drop, Keep}
 use Rattle.opus_feed.specs.Tails.{tail_kept}
 use Rattle.opus_multi.specs.Streams.{SpelledStream, StandFirst, AreStreams}
 use Rattle.opus_multi.specs.Durations.{HaveOneDuration}
@@ -15,20 +14,11 @@ use Rattle.opus_multi.specs.Multistream.{durations_of, IsMultistream}
 use Rattle.opus_multi.specs.Forms.{IsKeptValue, kept_multistream}
 use Rattle.opus_multi.specs.Joins.{held_durations}
 use Rattle.opus_multi.proofs.FormsLemmas.{kept-is_multistream}
+use Rattle.pack_records.proofs.LentLemmas.{tail-few}
 use Rattle.stream_records.specs.declared.item.StreamsItem.{StreamsItem}
 use Rattle.stream_records.specs.Holds.{Choices, held_as, spelling_of, HoldsStreams}
 
 -- padding bytes that are kept are few enough
-
-small_by : (b : Bool) (tail : List ℕ) → nat_le (length tail) max_tail ≡ b
-    → length (kept_bytes (if b then kept tail else counted (length tail))) ≤ max_tail
-small_by true tail e = leb-true (length tail) max_tail e
-small_by false tail e = omega arith
-
-kept_small : (padding : Padding) (tail : List ℕ) → length (kept_bytes (tail_kept padding tail)) ≤ max_tail
-kept_small Drop [] = omega arith
-kept_small Drop (x ∷ xs) = omega arith
-kept_small Keep tail = small_by (nat_le (length tail) max_tail) tail refl
 
 -- all streams have values
 
@@ -36,14 +26,14 @@ first_values : (padding : Padding) (ss : List SpelledStream) (bytes rest : List 
     → AllByRecursion IsKeptValue (map (held_as padding) ss)
 first_values padding [] bytes rest h = tt
 first_values padding (s ∷ ss) bytes rest h = (
-  record { value = h.0.spelled.value; tail = kept_small padding s.tail },
+  record { value = h.0.spelled.value; tail = tail-few padding s.tail },
   first_values padding ss (drop s.size bytes) rest h.1,
 )
 
 values_push : (padding : Padding) (ss : List SpelledStream) (s : SpelledStream)
     → AllByRecursion IsKeptValue (map (held_as padding) ss) → IsPacketValue s.value
     → AllByRecursion IsKeptValue (map (held_as padding) (ss ++ s ∷ []))
-values_push padding [] s all is = (record { value = is; tail = kept_small padding s.tail }, tt)
+values_push padding [] s all is = (record { value = is; tail = tail-few padding s.tail }, tt)
 values_push padding (t ∷ ss) s all is = (all.0, values_push padding ss s all.1 is)
 
 kept_values : (padding : Padding) (ss : List SpelledStream) (bytes : List ℕ) → AreStreams ss bytes

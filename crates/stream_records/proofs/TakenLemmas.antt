@@ -19,6 +19,7 @@ use Rattle.opus_feed.specs.Tails.{tail_kept}
 use Rattle.opus_feed.specs.Feeds.{Stands, Ended}
 use Rattle.opus_feed.specs.Answers.{Answers, Finishes, IsRead}
 use Rattle.opus_feed.specs.Packets.{IsNone, fault_of}
+use Rattle.opus_feed.proofs.ReadingLemmas.{reading_answer}
 use Rattle.opus_multi.specs.Streams.{SpelledStream, StandFirst, AreStreams}
 use Rattle.opus_multi.specs.Durations.{HaveOneDuration, IsUnequalAt}
 use Rattle.opus_multi.specs.Multistream.{durations_of}
@@ -27,7 +28,6 @@ use Rattle.opus_multi.specs.StreamParts.{read_with}
 use Rattle.opus_multi.specs.Forms.{kept_of, kept_self_of, kept_multistream}
 use Rattle.opus_multi.proofs.StreamsLemmas.{stand_bytes}
 use Rattle.opus_multi.proofs.ReadLemmas.{lt_or_ge, framing_more, framing_past, told_one, told_other}
-use Rattle.opus_multi.proofs.TurnLemmas.{reading_answer}
 use Rattle.opus_multi.proofs.WriteLemmas.{forms_push, forms_map}
 use Rattle.pack_records.specs.Early.{IsEarly}
 use Rattle.pack_records.specs.EarlyLaws.{early_more, early_none, early_front}

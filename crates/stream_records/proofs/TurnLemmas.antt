@@ -14,6 +14,7 @@ use Rattle.opus_feed.specs.declared.step.Step.TheVariants.{Done, Refused}
 use Rattle.opus_feed.specs.Feeds.{Stands}
 use Rattle.opus_feed.specs.Steps.{IsReading}
 use Rattle.opus_feed.specs.Answers.{Answers, Ends, IsRead}
+use Rattle.opus_feed.proofs.ReadingLemmas.{reading_answer}
 use Rattle.opus_multi.specs.Streams.{SpelledStream, StandFirst}
 use Rattle.opus_multi.specs.Multistream.{durations_of}
 use Rattle.opus_multi.specs.MultistreamFault.{framing_of}
@@ -23,7 +24,7 @@ use Rattle.opus_multi.specs.Told.{Says}
 use Rattle.opus_multi.specs.declared.durations.Durations.{Durations as MultiDurations}
 use Rattle.opus_multi.proofs.StreamsLemmas.{stand_more, stand_push, stand_bytes}
 use Rattle.opus_multi.proofs.ReadLemmas.{framing_more, told_other, unequal_within, length-durations}
-use Rattle.opus_multi.proofs.TurnLemmas.{IsNext, next_is, reading_answer, told_push}
+use Rattle.opus_multi.proofs.TurnLemmas.{IsNext, next_is, told_push}
 use Rattle.pack_records.proofs.TakenLemmas.{answers_refuses, refused_at}
 use Rattle.stream_records.specs.declared.durations.Other.{Other}
 use Rattle.stream_records.specs.declared.durations.Durations.{Durations}
@@ -90,7 +91,7 @@ turn_refused old new f start bytes piece streams whole begun are answer r =
 
 -- ---- a stream that ends
 
-flat_push : {A : Type 0} (f : A → List ℕ) (xs : List A) (y : A) → flat_map f (xs ++ y ∷ []) ≡ flat_map f xs ++ f y
+pub flat_push : {A : Type 0} (f : A → List ℕ) (xs : List A) (y : A) → flat_map f (xs ++ y ∷ []) ≡ flat_map f xs ++ f y
 flat_push f [] y = append-nil (f y)
 flat_push f (x ∷ xs) y = rw (flat_push f xs y) (sym (append_assoc (f x) (flat_map f xs) (f y)))
 

@@ -1,14 +1,10 @@
 -- The laws of an input that is one multistream packet.
 use Rattle.std.proofs.Common.{◌⊎◌, inl, inr, ℕ, List, sym}
 use Rattle.job_loop.specs.Shown.{Shown}
-use Rattle.opus_feed.specs.declared.framing.Framing.{Framing}
-use Rattle.opus_feed.specs.declared.framing.Framing.TheVariants.{Whole, SelfDelimited}
-use Rattle.opus_feed.specs.declared.step.Step.TheVariants.{More}
-use Rattle.opus_feed.specs.Answers.{Answers}
-use Rattle.opus_feed.specs.Packets.{IsPrefix}
 use Rattle.opus_multi.specs.MultistreamPrefix.{IsMultistreamPrefix}
-use Rattle.opus_multi.proofs.TurnLemmas.{reading_answer}
+use Rattle.opus_multi.proofs.StandsLemmas.{prefix_by}
 use Rattle.pack_records.specs.OnePayload.{OneRecord, NoneYet, SaysSettles}
+use Rattle.opus_feed.proofs.ReadingLemmas.{reading_answer}
 use Rattle.stream_records.specs.declared.item.StreamsItem.{StreamsItem}
 use Rattle.stream_records.specs.declared.stream_pieces.StreamPieces.{StreamPieces}
 use Rattle.stream_records.specs.Holds.{Choices, ShowsEarly}
@@ -16,10 +12,6 @@ use Rattle.stream_records.specs.HoldsLaws.{never_early}
 use Rattle.stream_records.specs.Raw.{EarlyRecord, NoRecord, RawSettles}
 use Rattle.stream_records.specs.StreamPieces.{Reads}
 use Rattle.stream_records.specs.StreamReading.{streams_decide}
-
-prefix_by : (framing : Framing) (rest : List ℕ) → Answers framing rest More → IsPrefix framing rest
-prefix_by Whole rest a = a
-prefix_by SelfDelimited rest a = a.0
 
 -- bytes of which nothing is decided can become a packet
 pub reads_prefix : (p : StreamPieces) (start : ℕ) (h : List ℕ) → Reads p start h → IsMultistreamPrefix p.streams h

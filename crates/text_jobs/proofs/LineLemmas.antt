@@ -11,7 +11,7 @@ use Rattle.memchr.specs.Find.{is_byte}
 use Rattle.job_loop.specs.Shown.{Shown}
 use Rattle.opus_sdp.specs.Text.{is_line}
 use Rattle.text_jobs.specs.declared.line.Line.{Line}
-use Rattle.text_jobs.specs.Lines.{ended, joined, line_at, lines_at, last_line, LineEnds}
+use Rattle.text_jobs.specs.Lines.{ended, joined, line_at, lines_at, LineEnds}
 use Rattle.text_jobs.specs.LineForm.{LineStands}
 
 -- ---- where a newline stands
@@ -111,25 +111,6 @@ stands_line start rest h text rs place s line at =
     }
 
 -- ---- the end of the input
-
-last-some : (at place : ℕ) (rest : List ℕ) → 0 < length rest → place ≡ at + length rest
-    → last_line at rest ≡ line_at at place rest ∷ []
-last-some at place [] some is = absurd (omega (arith, some))
-last-some at place (b ∷ rest) some is = ap (λ n. line_at at n (b ∷ rest) ∷ []) (sym is)
-
--- a last line without its newline
-pub ended_line : (start : ℕ) (rest h : List ℕ) (rs : List (Shown Line)) (place : ℕ) → LineStands start rest h rs
-    → 0 < length rest → length h ≡ place → LineEnds h (rs ++ line_at start place rest ∷ []) None
-ended_line start rest h rs place s some at =
-    let size = ap (λ (l : List ℕ). length l) s.front.parts ∙ length-append (joined s.texts) rest in (
-      s.texts,
-      rest,
-      s.front,
-      ap (λ l. l ++ line_at start place rest ∷ []) s.records_are
-          ∙ ap (λ l. lines_at 0 s.texts ++ l) (sym (last-some start place rest some (omega (arith, at, size, s.start_is))))
-          ∙ ap (λ n. lines_at 0 s.texts ++ last_line n rest) s.start_is,
-      refl,
-    )
 
 -- no line was begun
 pub ended_bare : (start : ℕ) (h : List ℕ) (rs : List (Shown Line)) → LineStands start [] h rs → LineEnds h rs None

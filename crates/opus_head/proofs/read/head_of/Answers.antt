@@ -2,11 +2,12 @@ use Rattle.std.proofs.Common.{◌≡◌, sym, ap, subst, ◌∙◌, drop, arith}
 use Rattle.std.specs.Int.{w16, cast_signed, cast_unsigned}
 use Rattle.std.proofs.lemmas.Int.{of_z-to_z}
 use Rattle.byteorder.specs.Endian.{little_number}
+use Rattle.opus_io.proofs.BytesLemmas.{AreBytes-from, AreBytes-drop}
 use Rattle.opus_head.specs.HeadValue.{HeadValue, IsHead, AreBytes}
 use Rattle.opus_head.specs.HeadRead.{head_in}
 use Rattle.opus_head.proofs.NoFaultLemmas.{NoFault-none, least_size}
 use Rattle.opus_head.proofs.NumberLemmas.{little_number-two}
-use Rattle.opus_head.proofs.SpelledLemmas.{AreBytes-drop, head_in-spelled}
+use Rattle.opus_head.proofs.SpelledLemmas.{head_in-spelled}
 use Rattle.opus_head.proofs.ReadingLemmas.{same_head}
 use Rattle.opus_head.proofs.read.head_of.Goals as goal
 
@@ -25,7 +26,7 @@ signed_16-requires c =
 pub invariant_of-result : goal.invariant_of-result
 invariant_of-result c =
     let bytes = c.args.bytes.now in
-    let are : AreBytes bytes = λ i. (c.type_inv.bytes i).fits in
+    let are : AreBytes bytes = AreBytes-from bytes (λ i. (c.type_inv.bytes i).fits) in
     let value = (head_in-spelled bytes (NoFault-none bytes c.requires.fault) are).value in
     let bits = little_number 2 (drop 16 bytes) in
     let read : c.signed_16.result ≡ cast_signed w16 bits = c.signed_16.ensures in

@@ -1,4 +1,5 @@
 use Rattle.std.proofs.Common.{◌≡◌, Ok, Err, inl, sym, ap, subst, ◌∙◌, rules}
+use Rattle.opus_io.proofs.BytesLemmas.{AreBytes-from}
 use Rattle.opus_head.specs.HeadValue.{AreBytes}
 use Rattle.opus_head.specs.HeadBytes.{IsOpusHead}
 use Rattle.opus_head.specs.HeadFault.{head_fault}
@@ -18,7 +19,7 @@ returns-in_err-check-clause-only c =
 pub returns-clause-found : goal.returns-clause-found
 returns-clause-found c =
     let bytes = c.args.bytes.now in
-    let are : AreBytes bytes = λ i. (c.type_inv.bytes i).fits in
+    let are : AreBytes bytes = AreBytes-from bytes (λ i. (c.type_inv.bytes i).fits) in
     let none = none-outcome (head_fault bytes) c.in_ok-check.ensures in
     subst (λ h. IsOpusHead h bytes) (sym c.in_ok-copy_head.ensures) (head_in-spelled bytes (NoFault-none bytes none) are)
 

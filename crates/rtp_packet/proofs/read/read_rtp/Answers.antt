@@ -1,4 +1,5 @@
 use Rattle.std.proofs.Common.{sym, subst, ◌∙◌}
+use Rattle.opus_io.proofs.BytesLemmas.{AreBytes-from}
 use Rattle.rtp_packet.specs.RtpValue.{AreBytes}
 use Rattle.rtp_packet.specs.RtpBytes.{IsRtp}
 use Rattle.rtp_packet.proofs.CheckLemmas.{Passes-none}
@@ -13,7 +14,7 @@ returns-in_err-ends-clause-only c =
 pub returns-clause-found : goal.returns-clause-found
 returns-clause-found c =
     let bytes = c.args.bytes.now in
-    let are : AreBytes bytes = λ i. (c.type_inv.bytes i).fits in
+    let are : AreBytes bytes = AreBytes-from bytes (λ i. (c.type_inv.bytes i).fits) in
     subst (λ p. IsRtp p bytes) (sym c.packet_of.ensures) (rtp_in-spelled bytes (Passes-none bytes c.in_ok-ends.ensures.none) are)
 
 pub returns-clause-only : goal.returns-clause-only
