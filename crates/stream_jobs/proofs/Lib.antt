@@ -18,5 +18,6 @@ pub mod OwnStores
 pub mod RecordGroups
 pub mod ApartJoined
 pub mod JoinAgainLemmas
+pub mod OneStream
 pub mod KeptAgain
 pub mod NormAgainLemmas

@@ -17,4 +17,5 @@ pub mod CheckStands
 pub mod StreamEnds
 pub mod Contents
 pub mod JoinAgain
+pub mod OneStream
 pub mod NormAgain
