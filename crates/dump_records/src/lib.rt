@@ -8,8 +8,6 @@ mod form;
 mod item;
 pub mod laws;
 mod mode;
-#[cfg(test)]
-mod tests;
 
 pub use form::DumpForm;
 pub use item::{Found, Item};

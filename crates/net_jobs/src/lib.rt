@@ -10,8 +10,6 @@ mod plain;
 mod receive;
 mod send;
 mod stream;
-#[cfg(test)]
-mod tests;
 
 pub use capture_refusal::CaptureRefusal;
 pub use events::Telling;

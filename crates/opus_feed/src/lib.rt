@@ -16,8 +16,6 @@ mod rule;
 mod stage;
 mod step;
 mod take;
-#[cfg(test)]
-mod tests;
 
 pub use feed::Feed;
 pub use framing::Framing;

@@ -51,26 +51,3 @@ pub fn len_bytes(value: u16) -> ArrayVec<u8, 2>
     }
     bytes
 }
-
-#[cfg(test)]
-mod tests {
-    use super::*;
-
-    #[test]
-    fn reads_what_it_writes(rt: HostRuntime) {
-        let table: [(u16, [u8; 2], usize); 6] = [
-            (0, [0, 9], 1),
-            (251, [251, 9], 1),
-            (252, [252, 0], 2),
-            (256, [252, 1], 2),
-            (1023, [255, 192], 2),
-            (1275, [255, 255], 2),
-        ];
-        for (value, bytes, used) in table {
-            assert_eq!(rt; len_bytes(value).as_slice(), &bytes[..used]);
-            assert_eq!(rt; read_len(&bytes), LenRead::Len { value, used });
-        }
-        assert_eq!(rt; read_len(&[]), LenRead::Cut);
-        assert_eq!(rt; read_len(&[252]), LenRead::Cut);
-    }
-}

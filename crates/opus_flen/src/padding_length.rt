@@ -89,28 +89,3 @@ pub fn write_pad(total: u32, out: &mut Vec<u8>) -> Result<(), NoMemory>
     out.push_reserved(parts.last);
     Ok(())
 }
-
-#[cfg(test)]
-mod tests {
-    use super::*;
-    use std::test::Fail;
-
-    #[test]
-    fn reads_what_it_writes(rt: HostRuntime) -> Result<(), Fail> {
-        let table: [(u32, [u8; 3], usize); 5] = [
-            (1, [0, 9, 9], 1),
-            (255, [254, 9, 9], 1),
-            (256, [255, 0, 9], 2),
-            (510, [255, 254, 9], 2),
-            (511, [255, 255, 0], 3),
-        ];
-        for (total, bytes, used) in table {
-            let mut out = Vec::new(rt.alloc());
-            assert_eq!(rt; write_pad(total, &mut out), Ok(()));
-            assert_eq!(rt; out.as_slice(), &bytes[..used]);
-            assert_eq!(rt; read_pad(&bytes), PadRead::Pad { total, used });
-        }
-        assert_eq!(rt; read_pad(&[255, 255]), PadRead::Cut);
-        Ok(())
-    }
-}

@@ -11,8 +11,6 @@ pub mod laws;
 mod output;
 mod read;
 mod table;
-#[cfg(test)]
-mod tests;
 mod write;
 
 pub use channel::route;

@@ -16,8 +16,6 @@ mod script;
 mod sink;
 mod source;
 mod steady;
-#[cfg(test)]
-mod tests;
 mod to_write;
 mod whole;
 

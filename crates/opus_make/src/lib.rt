@@ -11,8 +11,6 @@ mod made;
 mod maker;
 mod plan;
 mod ramp;
-#[cfg(test)]
-mod tests;
 mod written;
 
 pub use made::Made;

@@ -10,12 +10,8 @@ pub mod laws;
 mod list;
 mod multi;
 mod multi_feed;
-#[cfg(test)]
-mod multi_feed_tests;
 mod multi_place;
 mod part;
-#[cfg(test)]
-mod tests;
 
 pub use fault::{JoinFault, MultiFault};
 pub use joined::join;

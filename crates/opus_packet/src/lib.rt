@@ -14,8 +14,6 @@ mod shape;
 mod spelled;
 mod spelling;
 mod tail;
-#[cfg(test)]
-mod tests;
 mod undelimited;
 
 pub use fault::{Fault, Rule};

@@ -6,8 +6,6 @@ pub mod laws;
 mod part;
 mod place;
 mod repacketizer;
-#[cfg(test)]
-mod tests;
 
 pub use fault::CatFault;
 pub use repacketizer::Repacketizer;

@@ -10,8 +10,6 @@ mod param;
 mod read;
 mod size;
 mod table;
-#[cfg(test)]
-mod tests;
 mod text;
 mod write;
 mod written;

@@ -5,8 +5,6 @@
 pub mod laws;
 mod places;
 mod self_delimited;
-#[cfg(test)]
-mod tests;
 
 pub use places::{SelfPlaces, locate_self};
 pub use self_delimited::{SelfRead, decode_self};

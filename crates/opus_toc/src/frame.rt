@@ -49,38 +49,3 @@ fn flags_in(silk_frames: u8, stereo: bool, first: u8) -> Flags
         lbrr_side: side % 2 == 1,
     }
 }
-
-#[cfg(test)]
-mod tests {
-    use super::*;
-
-    fn made(silk_frames: u8, vad_mid: u8, lbrr_mid: bool, side: (u8, bool)) -> Option<Flags> {
-        Some(Flags {
-            silk_frames,
-            vad_mid,
-            lbrr_mid,
-            vad_side: side.0,
-            lbrr_side: side.1,
-        })
-    }
-
-    // Configuration, channels, the frame, its flags.
-    #[test]
-    fn reads_the_flags(rt: HostRuntime) {
-        let mono = (0, false);
-        let table: [(u8, bool, &[u8], Option<Flags>); 9] = [
-            (1, false, &[0x40], made(1, 0, true, mono)),
-            (0, false, &[0xBF, 1], made(1, 1, false, mono)),
-            (2, false, &[0x9F], made(2, 2, false, mono)),
-            (3, true, &[0x11], made(3, 0, true, (0, true))),
-            (7, true, &[0x9C], made(3, 4, true, (6, false))),
-            (10, true, &[0x6B], made(2, 1, true, (1, false))),
-            (15, true, &[0xA0], made(1, 1, false, (1, false))),
-            (16, true, &[0xFF], None),
-            (0, true, &[], None),
-        ];
-        for (config, stereo, frame, expected) in table {
-            assert_eq!(rt; flags(Toc::new(config, stereo, 0), frame), expected);
-        }
-    }
-}

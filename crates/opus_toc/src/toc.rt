@@ -123,26 +123,3 @@ impl Toc {
         }
     }
 }
-
-#[cfg(test)]
-mod tests {
-    use super::*;
-
-    // The first bytes of the standard's examples (RFC 6716, 3.3).
-    #[test]
-    fn reads_the_examples(rt: HostRuntime) {
-        let table = [
-            (8, Toc::new(1, false, 0), Mode::Silk, Band::Narrow, 960),
-            (233, Toc::new(29, false, 1), Mode::Celt, Band::Full, 240),
-            (123, Toc::new(15, false, 3), Mode::Hybrid, Band::Full, 960),
-            (255, Toc::new(31, true, 3), Mode::Celt, Band::Full, 960),
-        ];
-        for (byte, toc, mode, band, samples) in table {
-            assert_eq!(rt; Toc::of_byte(byte), toc);
-            assert_eq!(rt; toc.to_byte(), byte);
-            assert_eq!(rt; toc.mode(), mode);
-            assert_eq!(rt; toc.bandwidth(), band);
-            assert_eq!(rt; toc.samples(), samples);
-        }
-    }
-}

@@ -24,5 +24,3 @@ pub use option::Opt;
 pub use padding::padding_name;
 pub use words::job_of;
 
-#[cfg(test)]
-mod tests;

@@ -8,8 +8,6 @@ mod list;
 mod padded;
 mod put;
 mod size;
-#[cfg(test)]
-mod tests;
 
 pub use header::{
     push_canon_header, push_canon_self_header, push_keep_header, push_keep_self_header, push_lens,

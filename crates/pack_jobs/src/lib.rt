@@ -15,8 +15,6 @@ mod record;
 mod refusal;
 mod show;
 mod split;
-#[cfg(test)]
-mod tests;
 mod text;
 
 pub use check::Check;

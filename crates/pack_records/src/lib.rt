@@ -7,8 +7,6 @@
 
 mod cut;
 mod demo;
-#[cfg(test)]
-mod demo_tests;
 mod first;
 mod item;
 mod kept_form;
@@ -20,8 +18,6 @@ mod pieces;
 mod raw;
 mod self_form;
 mod store;
-#[cfg(test)]
-mod tests;
 mod undelimited;
 
 pub use cut::Cut;

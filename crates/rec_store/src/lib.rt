@@ -10,16 +10,12 @@ mod dump_item;
 mod dump_line;
 mod dump_opening;
 mod dump_reader;
-#[cfg(test)]
-mod dump_tests;
 pub mod laws;
 mod numbers;
 mod record;
 mod room;
 mod stop;
 mod take;
-#[cfg(test)]
-mod tests;
 
 pub use demo::{DemoHead, DemoReader};
 pub use dump::{dump_head, dump_record, dump_record_head};

@@ -8,8 +8,6 @@ pub mod laws;
 mod receiver;
 mod ring;
 mod sender;
-#[cfg(test)]
-mod tests;
 
 pub use event::{Arrival, Event};
 pub use receiver::Receiver;

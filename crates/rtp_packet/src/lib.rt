@@ -6,8 +6,6 @@ mod fault;
 pub mod laws;
 mod packet;
 mod read;
-#[cfg(test)]
-mod tests;
 mod write;
 
 pub use fault::RtpFault;

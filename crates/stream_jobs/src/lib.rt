@@ -12,8 +12,6 @@ mod check;
 mod extract;
 mod join;
 pub mod join_laws;
-#[cfg(test)]
-mod join_tests;
 pub mod laws;
 mod norm;
 pub mod norm_laws;
@@ -22,8 +20,6 @@ mod refusal;
 mod show;
 mod stream;
 mod stream_packets;
-#[cfg(test)]
-mod tests;
 
 pub use join::{Join, join_job};
 pub use refusal::{StreamRefusal, StreamWhy};

@@ -12,8 +12,6 @@ pub mod laws;
 mod raw;
 mod stream_pieces;
 mod streams_form;
-#[cfg(test)]
-mod tests;
 
 pub use demo::DemoStreams;
 pub use item::{Spelling, StreamsFound, StreamsItem};

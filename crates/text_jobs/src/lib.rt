@@ -11,8 +11,6 @@ mod print;
 mod refusal;
 mod run;
 mod sdp;
-#[cfg(test)]
-mod tests;
 
 pub use line::{Line, NoCut};
 pub use lines::LineForm;

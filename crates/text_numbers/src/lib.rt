@@ -2,7 +2,5 @@
 #![tactic(auto)]
 
 mod number;
-#[cfg(test)]
-mod tests;
 
 pub use number::read_number;
