@@ -19,24 +19,6 @@ use std::test::Fail;
 // The sizes of the pieces in which an input is read and a text is written.
 const STEPS: [usize; 3] = [1, 3, 4096];
 
-// An input under a limit, and how the job that writes ends over the form of lengths, with all that it wrote.
-#[derive(Drop)]
-struct Row {
-    input: &'static [u8],
-    limit: u64,
-    ending: Ending<bool>,
-    text: &'static [u8],
-}
-
-fn ends(input: &'static [u8], limit: u64, ending: Ending<bool>, text: &'static [u8]) -> Row {
-    Row {
-        input,
-        limit,
-        ending,
-        text,
-    }
-}
-
 fn sink_of(alloc: Global, step: usize, fails: &[u64]) -> Result<MemorySink, NoMemory> {
     MemorySink::new(alloc, step.max(1), fails)
 }
@@ -56,118 +38,140 @@ fn write_payloads(
     Ok(run_job(alloc, limit, form, &mut Payloads, &mut source, sink))
 }
 
+// An input, a limit, and how the job that writes ends over the form of lengths, with all that it wrote.
+type Row = (&'static [u8], u64, Ending<bool>, &'static [u8]);
+
+const ROWS: &[Row] = &[
+    (b"", 9, Ending::Ok, b"#."),
+    (b"\x01a\x02bc", 9, Ending::Ok, b"#:a:bc."),
+    (b"\x01a\x02bc", 5, Ending::Ok, b"#:a:bc."),
+    (b"\x01a\x02bc", 4, Ending::InputLimit, b"#:a."),
+    (b"\x01a\x02bc", 2, Ending::InputLimit, b"#:a."),
+    (b"\x01a\x02b", 9, Ending::Refused(true), b"#:a"),
+    (b"\x01a\x02", 9, Ending::Refused(true), b"#:a"),
+    (b"\x01a\x00\x01b", 9, Ending::Refused(false), b"#:a"),
+    (b"\x01a\x00\x01b", 3, Ending::Refused(false), b"#:a"),
+    (b"\x01a\x00\x01b", 2, Ending::InputLimit, b"#:a."),
+];
+
+fn is_written(alloc: Global, row: &Row, step: usize) -> Result<bool, Fail> {
+    let mut sink = sink_of(alloc, step, &[])?;
+    let end = write_payloads(alloc, row.0, row.1, step, &[], &mut sink)?;
+    Ok(end == row.2 && sink.contents() == row.3)
+}
+
 #[test]
 fn what_bytes_decide_is_written_and_nothing_else(rt: HostRuntime) -> Result<(), Fail> {
-    let alloc = rt.alloc();
-    let rows = [
-        ends(b"", 9, Ending::Ok, b"#."),
-        ends(b"\x01a\x02bc", 9, Ending::Ok, b"#:a:bc."),
-        ends(b"\x01a\x02bc", 5, Ending::Ok, b"#:a:bc."),
-        ends(b"\x01a\x02bc", 4, Ending::InputLimit, b"#:a."),
-        ends(b"\x01a\x02bc", 2, Ending::InputLimit, b"#:a."),
-        ends(b"\x01a\x02b", 9, Ending::Refused(true), b"#:a"),
-        ends(b"\x01a\x02", 9, Ending::Refused(true), b"#:a"),
-        ends(b"\x01a\x00\x01b", 9, Ending::Refused(false), b"#:a"),
-        ends(b"\x01a\x00\x01b", 3, Ending::Refused(false), b"#:a"),
-        ends(b"\x01a\x00\x01b", 2, Ending::InputLimit, b"#:a."),
-    ];
-    for Row {
-        input,
-        limit,
-        ending,
-        text,
-    } in &rows {
+    for row in ROWS {
         for step in STEPS {
-            let mut sink = sink_of(alloc, step, &[])?;
-            let end = write_payloads(alloc, input, *limit, step, &[], &mut sink)?;
-            assert_eq!(rt; end, *ending);
-            assert_eq!(rt; sink.contents(), *text);
+            assert!(rt;
+                is_written(rt.alloc(), row, step)?,
+                "{row:?} in steps of {step}"
+            );
         }
     }
     Ok(())
 }
 
+// The number of the read or the write that fails, and what was written. Of the former a read asks for one byte,
+// and of the latter a write takes one.
+const READS: &[(u64, &[u8])] = &[
+    (1, b"#"),
+    (2, b"#"),
+    (3, b"#:a"),
+    (4, b"#:a"),
+    (5, b"#:a"),
+    (6, b"#:a:bc"),
+];
+
+const WRITES: &[(u64, &[u8])] = &[
+    (1, b""),
+    (2, b"#"),
+    (3, b"#:"),
+    (4, b"#:a"),
+    (5, b"#:a:"),
+    (6, b"#:a:b"),
+    (7, b"#:a:bc"),
+];
+
+fn is_read_fault(alloc: Global, row: &(u64, &[u8])) -> Result<bool, Fail> {
+    let mut sink = sink_of(alloc, 4096, &[])?;
+    let end = write_payloads(alloc, b"\x01a\x02bc", 9, 1, &[row.0], &mut sink)?;
+    Ok(end == Ending::ReadFault && sink.contents() == row.1)
+}
+
+fn is_write_fault(alloc: Global, row: &(u64, &[u8])) -> Result<bool, Fail> {
+    let mut sink = sink_of(alloc, 1, &[row.0])?;
+    let end = write_payloads(alloc, b"\x01a\x02bc", 9, 1, &[], &mut sink)?;
+    Ok(end == Ending::WriteFault && sink.contents() == row.1)
+}
+
 #[test]
-fn each_read_fails_in_turn(rt: HostRuntime) -> Result<(), Fail> {
-    let alloc = rt.alloc();
-    let texts: [&[u8]; 6] = [b"#", b"#", b"#:a", b"#:a", b"#:a", b"#:a:bc"];
-    let mut read = 0u64;
-    for text in texts {
-        read = read.saturating_add(1);
-        let mut sink = sink_of(alloc, 4096, &[])?;
-        let end = write_payloads(alloc, b"\x01a\x02bc", 9, 1, &[read], &mut sink)?;
-        assert_eq!(rt; end, Ending::ReadFault);
-        assert_eq!(rt; sink.contents(), text);
+fn each_read_and_each_write_fails_in_turn(rt: HostRuntime) -> Result<(), Fail> {
+    for row in READS {
+        assert!(rt; is_read_fault(rt.alloc(), row)?, "{row:?}");
+    }
+    for row in WRITES {
+        assert!(rt; is_write_fault(rt.alloc(), row)?, "{row:?}");
     }
     Ok(())
 }
 
-#[test]
-fn each_write_fails_in_turn(rt: HostRuntime) -> Result<(), Fail> {
-    let alloc = rt.alloc();
-    let all = b"#:a:bc.";
-    let mut write = 0u64;
-    for count in 0..all.len() {
-        write = write.saturating_add(1);
-        let mut sink = sink_of(alloc, 1, &[write])?;
-        let end = write_payloads(alloc, b"\x01a\x02bc", 9, 1, &[], &mut sink)?;
-        assert_eq!(rt; end, Ending::WriteFault);
-        assert_eq!(rt; sink.contents(), &all[..count]);
-    }
-    Ok(())
+const INPUT: &[u8] = b"\x01a\x02bc\x00";
+
+fn counts_lengths(alloc: Global, step: usize) -> Result<bool, Fail> {
+    let mut source = MemorySource::new(alloc, INPUT, step.max(1), &[])?;
+    let mut sink = sink_of(alloc, step, &[])?;
+    let form = LengthForm::new();
+    let end = run_job(alloc, 9, form, &mut Count::new(), &mut source, &mut sink);
+    Ok(end == Ending::Ok && sink.contents() == [3].as_slice())
+}
+
+fn counts_sizes(alloc: Global, step: usize) -> Result<bool, Fail> {
+    let mut source = MemorySource::new(alloc, INPUT, step.max(1), &[])?;
+    let mut sink = sink_of(alloc, step, &[])?;
+    let form = SizeForm::new();
+    let end = run_job(alloc, 9, form, &mut Count::new(), &mut source, &mut sink);
+    Ok(end == Ending::Ok && sink.contents() == [1].as_slice())
+}
+
+fn refuses_sizes(alloc: Global, step: usize) -> Result<bool, Fail> {
+    let mut source = MemorySource::new(alloc, INPUT, step.max(1), &[])?;
+    let mut sink = sink_of(alloc, step, &[])?;
+    let form = SizeForm::new();
+    let end = run_job(alloc, 9, form, &mut Payloads, &mut source, &mut sink);
+    Ok(end == Ending::Refused(false) && sink.contents() == b"#".as_slice())
 }
 
 #[test]
 fn each_job_runs_over_each_form(rt: HostRuntime) -> Result<(), Fail> {
-    let alloc = rt.alloc();
-    let input = b"\x01a\x02bc\x00";
     for step in STEPS {
-        let mut source = MemorySource::new(alloc, input, step.max(1), &[])?;
-        let mut sink = sink_of(alloc, step, &[])?;
-        let form = LengthForm::new();
-        let end = run_job(alloc, 9, form, &mut Count::new(), &mut source, &mut sink);
-        assert_eq!(rt; end, Ending::Ok);
-        assert_eq!(rt; sink.contents(), [3].as_slice());
-
-        let mut source = MemorySource::new(alloc, input, step.max(1), &[])?;
-        let mut sink = sink_of(alloc, step, &[])?;
-        let form = SizeForm::new();
-        let end = run_job(alloc, 9, form, &mut Count::new(), &mut source, &mut sink);
-        assert_eq!(rt; end, Ending::Ok);
-        assert_eq!(rt; sink.contents(), [1].as_slice());
-
-        let mut source = MemorySource::new(alloc, input, step.max(1), &[])?;
-        let mut sink = sink_of(alloc, step, &[])?;
-        let form = SizeForm::new();
-        let end = run_job(alloc, 9, form, &mut Payloads, &mut source, &mut sink);
-        assert_eq!(rt; end, Ending::Refused(false));
-        assert_eq!(rt; sink.contents(), b"#".as_slice());
+        assert!(rt; counts_lengths(rt.alloc(), step)?, "{step}");
+        assert!(rt; counts_sizes(rt.alloc(), step)?, "{step}");
+        assert!(rt; refuses_sizes(rt.alloc(), step)?, "{step}");
     }
     Ok(())
 }
 
-#[test]
-fn a_text_longer_than_the_gathered_sink_is_whole(rt: HostRuntime) -> Result<(), Fail> {
-    let alloc = rt.alloc();
-    let mut input = Vec::new(alloc);
-    let mut text = Vec::new(alloc);
-    text.push(b'#')?;
+// Two hundred records of two hundred bytes, and what is written of them.
+fn long(alloc: Global, before: &[u8], mark: u8) -> Result<Vec<u8>, Fail> {
+    let mut bytes = Vec::from_slice(alloc, before)?;
     for number in 0..200u8 {
-        input.push(200)?;
-        text.push(b':')?;
+        bytes.push(mark)?;
         for _ in 0..200 {
-            input.push(number)?;
-            text.push(number)?;
+            bytes.push(number)?;
         }
     }
+    Ok(bytes)
+}
+
+fn is_whole(alloc: Global, step: usize) -> Result<bool, Fail> {
+    let input = long(alloc, b"", 200)?;
+    let mut text = long(alloc, b"#", b':')?;
     text.push(b'.')?;
-    for step in [1000, 4096] {
-        let mut sink = sink_of(alloc, step, &[])?;
-        let end = write_payloads(alloc, &input, 100_000, 4096, &[], &mut sink)?;
-        assert_eq!(rt; end, Ending::Ok);
-        assert_eq!(rt; sink.contents() == text.as_slice(), true);
-    }
-    Ok(())
+    let mut sink = sink_of(alloc, step, &[])?;
+    let end = write_payloads(alloc, &input, 100_000, 4096, &[], &mut sink)?;
+    Ok(end == Ending::Ok && sink.contents() == text.as_slice())
 }
 
 // A run that writes 9,000 bytes for each of two records and at the end.
@@ -179,17 +183,29 @@ fn write_repeats(alloc: Global, sink: &mut MemorySink) -> Result<Ending<bool>, F
     Ok(run_job(alloc, 9, LengthForm::new(), &mut job, &mut source, sink))
 }
 
+// Nine writes are needed. Whether the sink holds the same where this one fails and the next would be taken, and where
+// the four behind it fail as well.
+fn stops_at(alloc: Global, first: u64) -> Result<bool, Fail> {
+    let mut once = sink_of(alloc, 4096, &[first])?;
+    let mut always = sink_of(
+        alloc,
+        4096,
+        &[0, 1, 2, 3, 4].map(|more| first.saturating_add(more)),
+    )?;
+    Ok(
+        write_repeats(alloc, &mut once)? == Ending::WriteFault
+            && write_repeats(alloc, &mut always)? == Ending::WriteFault
+            && once.contents() == always.contents(),
+    )
+}
+
 #[test]
-fn nothing_is_written_behind_a_write_that_failed(rt: HostRuntime) -> Result<(), Fail> {
-    let alloc = rt.alloc();
-    // Nine writes are needed. One of them fails and the next would be taken, or those behind it fail as well.
-    for first in 1..10u64 {
-        let mut once = sink_of(alloc, 4096, &[first])?;
-        assert_eq!(rt; write_repeats(alloc, &mut once)?, Ending::WriteFault);
-        let all = [first, first + 1, first + 2, first + 3, first + 4];
-        let mut always = sink_of(alloc, 4096, &all)?;
-        assert_eq!(rt; write_repeats(alloc, &mut always)?, Ending::WriteFault);
-        assert_eq!(rt; once.contents() == always.contents(), true);
+fn long_texts_are_written_up_to_the_first_fault(rt: HostRuntime) -> Result<(), Fail> {
+    for step in [1000, 4096] {
+        assert!(rt; is_whole(rt.alloc(), step)?, "{step}");
+    }
+    for first in 1..10 {
+        assert!(rt; stops_at(rt.alloc(), first)?, "{first}");
     }
     Ok(())
 }
