@@ -72,112 +72,145 @@ fn take_all<S: Source>(
     Ok(None)
 }
 
-#[test]
-fn readers_and_writers_of_std_serve(rt: HostRuntime) -> Result<(), Fail> {
-    let alloc = rt.alloc();
+fn reader_of_std_serves(alloc: Global) -> Result<bool, Fail> {
     let mut reader = Reader::new(alloc, 100)?;
     let mut source = FromRead::new(Cursor::new(b"packet"));
     let mut taken = Vec::new(alloc);
-    assert_eq!(rt; take_all(&mut reader, &mut source, &mut taken)?, None);
-    let mut written = Vec::new(alloc);
-    assert_eq!(rt; write_all(&mut ToWrite::new(&mut written), &taken), Ok(()));
-    assert_eq!(rt; written.as_slice(), b"packet".as_slice());
+    let end = take_all(&mut reader, &mut source, &mut taken)?;
+    Ok(end.is_none() && taken.as_slice() == b"packet".as_slice())
+}
 
+fn writer_of_std_serves(alloc: Global) -> bool {
+    let mut written = Vec::new(alloc);
+    let answer = write_all(&mut ToWrite::new(&mut written), b"packet");
+    answer == Ok(()) && written.as_slice() == b"packet".as_slice()
+}
+
+fn fault_is_told_once(alloc: Global) -> Result<bool, Fail> {
     let mut faulty = FromRead::new(Faulty { calls: 0 });
     let mut reader = Reader::new(alloc, 100)?;
-    taken.clear();
-    assert_eq!(rt;
-        take_all(&mut reader, &mut faulty, &mut taken)?,
-        Some(InStop::Read)
-    );
-    assert_eq!(rt; take_all(&mut reader, &mut faulty, &mut taken)?, None);
-    assert_eq!(rt; taken.as_slice(), [7, 8].as_slice());
+    let mut taken = Vec::new(alloc);
+    let first = take_all(&mut reader, &mut faulty, &mut taken)?;
+    let second = take_all(&mut reader, &mut faulty, &mut taken)?;
+    Ok(first == Some(InStop::Read) && second.is_none() && taken.as_slice() == [7, 8].as_slice())
+}
 
+fn full_slice_fails() -> bool {
     let mut full = [0; 2];
     let mut sink = ToWrite::new(full.as_mut_slice());
-    assert_eq!(rt; write_all(&mut sink, b"abc"), Err(SinkStop::Failed));
-    Ok(())
+    write_all(&mut sink, b"abc") == Err(SinkStop::Failed)
 }
 
-#[test]
-fn memory_fails_at_the_calls_asked(rt: HostRuntime) -> Result<(), Fail> {
-    let alloc = rt.alloc();
-    let mut source = MemorySource::new(alloc, b"ab", 1, &[2, 5])?;
-    let mut buf = [0; 4];
-    for want in [Ok(1), Err(Failed), Ok(1), Ok(0), Err(Failed), Ok(0)] {
-        assert_eq!(rt; source.read(&mut buf), want);
-    }
-    assert_eq!(rt; buf[0], b'b');
-    assert_eq!(rt; EndlessSource::new(7).read(&mut buf), Ok(4));
-    assert_eq!(rt; buf, [7; 4]);
-    let thirty = [9; 30];
-    let mut sink = MemorySink::new(alloc, 1, &[22])?;
-    assert_eq!(rt; write_all(&mut sink, &thirty), Err(SinkStop::Failed));
-    assert_eq!(rt; sink.contents(), &thirty[..21]);
-    assert_eq!(rt; sink.write(&thirty), Ok(1));
-    assert_eq!(rt;
-        Bytes::copy(alloc, sink.contents())?.as_slice(),
-        &thirty[..22]
-    );
-    Ok(())
-}
+// What the writes of three bytes say, one after another.
+const WRITES: &[Result<usize, SinkStop>] = &[Err(SinkStop::Failed), Err(SinkStop::Failed), Ok(3)];
 
-#[test]
-fn the_byte_past_the_limit_is_never_shown(rt: HostRuntime) -> Result<(), Fail> {
-    let alloc = rt.alloc();
-    let bytes = [7; 65];
-    for (limit, shown, end) in [(64, 64, Some(InStop::Limit)), (65, 65, None)] {
-        let mut reader = Reader::new(alloc, limit)?;
-        let mut source = SteadySource::new(alloc, &bytes)?;
-        let mut taken = Vec::new(alloc);
-        assert_eq!(rt; take_all(&mut reader, &mut source, &mut taken)?, end);
-        assert_eq!(rt; take_all(&mut reader, &mut source, &mut taken)?, end);
-        assert_eq!(rt; (reader.passed(), reader.taken()), (limit, 65));
-        let mut sink = SteadySink::new(alloc);
-        assert_eq!(rt; write_all(&mut sink, &taken), Ok(()));
-        assert_eq!(rt; sink.contents(), &bytes[..shown]);
-    }
-    Ok(())
-}
-
-#[test]
-fn a_stop_comes_from_one_call_of_the_object_inside(rt: HostRuntime) -> Result<(), Fail> {
+fn write_stops_come_from_one_call() -> bool {
     let mut fussy = Fussy { calls: 0 };
+    let mut same = true;
     let mut sink = ToWrite::new(&mut fussy);
-    for want in [Err(SinkStop::Failed), Err(SinkStop::Failed), Ok(3)] {
-        assert_eq!(rt; sink.write(b"abc"), want);
+    for want in WRITES {
+        same = sink.write(b"abc") == *want && same;
     }
-    assert_eq!(rt; fussy.calls, 3);
+    same && fussy.calls == 3
+}
 
+fn gives<S: Source>(source: &mut S, wants: &[Result<usize, Failed>], last: &[u8]) -> bool {
+    let mut buf = [0; 4];
+    let mut same = true;
+    for want in wants {
+        same = source.read(&mut buf) == *want && same;
+    }
+    same && buf.starts_with(last)
+}
+
+fn read_stops_come_from_one_call() -> bool {
     let mut faulty = Faulty { calls: 0 };
     let mut source = FromRead::new(&mut faulty);
-    let mut buf = [0; 4];
-    for want in [Ok(2), Err(Failed), Ok(0)] {
-        assert_eq!(rt; source.read(&mut buf), want);
-    }
-    assert_eq!(rt; faulty.calls, 3);
-    Ok(())
+    let same = gives(&mut source, &[Ok(2), Err(Failed), Ok(0)], &[]);
+    same && faulty.calls == 3
 }
 
 #[test]
-fn the_bytes_passed_last_stay_until_the_next_read(rt: HostRuntime) -> Result<(), Fail> {
-    let mut reader = Reader::new(rt.alloc(), 100)?;
-    let mut source = SteadySource::new(rt.alloc(), b"packet")?;
-    assert_eq!(rt;
-        (reader.shown().is_empty(), reader.is_filled()),
-        (true, false)
-    );
-    assert_eq!(rt; reader.fill(&mut source), Ok(()));
-    assert_eq!(rt; reader.shown(), b"packet".as_slice());
+fn readers_and_writers_of_std_serve(rt: HostRuntime) -> Result<(), Fail> {
+    assert!(rt; reader_of_std_serves(rt.alloc())?);
+    assert!(rt; writer_of_std_serves(rt.alloc()));
+    assert!(rt; fault_is_told_once(rt.alloc())?);
+    assert!(rt; full_slice_fails());
+    assert!(rt; write_stops_come_from_one_call());
+    assert!(rt; read_stops_come_from_one_call());
+    Ok(())
+}
+
+fn memory_source_fails(alloc: Global) -> Result<bool, Fail> {
+    let mut source = MemorySource::new(alloc, b"ab", 1, &[2, 5])?;
+    let wants = [Ok(1), Err(Failed), Ok(1), Ok(0), Err(Failed), Ok(0)];
+    Ok(gives(&mut source, &wants, b"b"))
+}
+
+fn memory_sink_fails(alloc: Global) -> Result<bool, Fail> {
+    let thirty = [9; 30];
+    let mut sink = MemorySink::new(alloc, 1, &[22])?;
+    let stopped = write_all(&mut sink, &thirty) == Err(SinkStop::Failed);
+    let written = sink.contents() == [9; 21].as_slice();
+    let again = sink.write(&thirty) == Ok(1);
+    let copy = Bytes::copy(alloc, sink.contents())?;
+    Ok(stopped && written && again && copy.as_slice() == [9; 22].as_slice())
+}
+
+// A reader's limit, how many of 65 bytes it shows, and how it ends.
+type Limit = (u64, usize, Option<InStop>);
+
+const LIMITS: &[Limit] = &[(64, 64, Some(InStop::Limit)), (65, 65, None)];
+
+fn takes(alloc: Global, row: &Limit, bytes: &[u8], taken: &mut Vec<u8>) -> Result<bool, Fail> {
+    let (limit, _, end) = *row;
+    if limit < 1 || 65 < limit {
+        return Ok(false);
+    }
+    let mut reader = Reader::new(alloc, limit)?;
+    let mut source = SteadySource::new(alloc, bytes)?;
+    let first = take_all(&mut reader, &mut source, taken)?;
+    let second = take_all(&mut reader, &mut source, taken)?;
+    Ok(first == end && second == end && (reader.passed(), reader.taken()) == (limit, 65))
+}
+
+fn is_limited(alloc: Global, row: &Limit) -> Result<bool, Fail> {
+    let bytes = [7; 65];
+    let mut taken = Vec::new(alloc);
+    let same = takes(alloc, row, &bytes, &mut taken)?;
+    let mut sink = SteadySink::new(alloc);
+    let answer = write_all(&mut sink, &taken);
+    Ok(same && answer == Ok(()) && Some(sink.contents()) == bytes.get(..row.1))
+}
+
+// Passes two bytes of the six, and then the others.
+fn pass_all(reader: &mut Reader) {
     let first = reader.shown().len().min(2);
     reader.pass(first);
     let rest = reader.shown().len();
     reader.pass(rest);
-    assert_eq!(rt; reader.last(), b"cket".as_slice());
-    assert_eq!(rt; reader.fill(&mut source), Ok(()));
-    assert_eq!(rt;
-        (reader.last().is_empty(), reader.is_filled()),
-        (true, false)
-    );
+}
+
+// The bytes passed last stay until the next read.
+fn last_bytes_stay(alloc: Global) -> Result<bool, Fail> {
+    let mut reader = Reader::new(alloc, 100)?;
+    let mut source = SteadySource::new(alloc, b"packet")?;
+    let fresh = reader.shown().is_empty() && !reader.is_filled();
+    let filled = reader.fill(&mut source) == Ok(()) && reader.shown() == b"packet".as_slice();
+    pass_all(&mut reader);
+    let kept = reader.last() == b"cket".as_slice();
+    let ended = reader.fill(&mut source) == Ok(());
+    Ok(fresh && filled && kept && ended && reader.last().is_empty() && !reader.is_filled())
+}
+
+#[test]
+fn memory_serves_and_fails_at_the_calls_asked(rt: HostRuntime) -> Result<(), Fail> {
+    assert!(rt; memory_source_fails(rt.alloc())?);
+    assert!(rt; gives(&mut EndlessSource::new(7), &[Ok(4)], &[7; 4]));
+    assert!(rt; memory_sink_fails(rt.alloc())?);
+    for row in LIMITS {
+        assert!(rt; is_limited(rt.alloc(), row)?, "{row:?}");
+    }
+    assert!(rt; last_bytes_stay(rt.alloc())?);
     Ok(())
 }

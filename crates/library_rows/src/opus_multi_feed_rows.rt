@@ -1,7 +1,7 @@
 //! Multistream packets in pieces, with their answers.
 use crate::opus_multi_rows::{BROKEN, GOOD, UNEQUAL, broken};
-use opus_multi::{MultiFault, MultiFeed, Part, decode_multi, write_multi};
 use opus_feed::Padding;
+use opus_multi::{MultiFault, MultiFeed, Part, decode_multi, write_multi};
 use opus_packet::{Rule, Tail};
 use std::alloc::Global;
 use std::test::Fail;

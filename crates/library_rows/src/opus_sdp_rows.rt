@@ -1,7 +1,7 @@
 //! Lines, what is printed of them, and their faults with their places.
+use opus_io::{Bytes, NoMemory};
 use opus_sdp::SdpFault::{self, Codec, Name, PayloadType, Prefix, Repeat, Value};
 use opus_sdp::{Fmtp, Param, Params, is_line, read_fmtp, read_rtpmap, write_fmtp, write_rtpmap};
-use opus_io::{Bytes, NoMemory};
 use std::alloc::Global;
 use std::process::Abort;
 use std::test::Fail;

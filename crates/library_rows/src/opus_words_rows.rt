@@ -1,6 +1,6 @@
 //! Words and what they stand for.
-use opus_words::{Form, Job, JobKind, Opt, WordsFault, job_of};
 use opus_feed::Padding;
+use opus_words::{Form, Job, JobKind, Opt, WordsFault, job_of};
 use std::alloc::{AllocError, Global};
 use std::test::Fail;
 

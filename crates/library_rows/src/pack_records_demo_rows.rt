@@ -1,9 +1,9 @@
 //! Stores in pieces of 1, 3 and 4,096 bytes: each record with its bytes, and the cut.
 
-use pack_records::{Cut, DemoForm, Found, Item};
 use job_loop::Form;
 use opus_feed::{Framing, Padding};
 use opus_packet::{Fault, Rule, Shape};
+use pack_records::{Cut, DemoForm, Found, Item};
 use std::alloc::Global;
 use std::test::Fail;
 

@@ -5,10 +5,10 @@ mod lent;
 mod raw;
 mod runs;
 
-use pack_records::{Cut, Found, Item};
 use job_loop::Form;
 use opus_feed::{Framing, Padding};
 use opus_packet::{Fault, Rule, Shape};
+use pack_records::{Cut, Found, Item};
 use std::process::Abort;
 use std::test::Fail;
 

@@ -1,6 +1,6 @@
 //! Captures read in pieces of any size, cut, gone wrong, past a limit and after a failed read.
-use rec_store::{DumpHead, DumpItem, DumpKind, DumpReader, StoreFault, StoreStop};
 use opus_io::{MemorySource, Reader, Source};
+use rec_store::{DumpHead, DumpItem, DumpKind, DumpReader, StoreFault, StoreStop};
 use std::alloc::Global;
 use std::process::Abort;
 use std::test::Fail;

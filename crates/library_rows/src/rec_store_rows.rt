@@ -1,6 +1,8 @@
 //! Stores read in pieces of any size, cut, past a limit and after a failed read; records and captures written.
-use rec_store::{DemoReader, StoreFault, StoreStop, demo_head, demo_record, dump_head, dump_record};
 use opus_io::{MemorySource, Reader, Source};
+use rec_store::{
+    DemoReader, StoreFault, StoreStop, demo_head, demo_record, dump_head, dump_record,
+};
 use std::alloc::AllocError;
 use std::test::Fail;
 

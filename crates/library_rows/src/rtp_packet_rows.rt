@@ -22,6 +22,58 @@ const READ: Rtp<'static> = Rtp {
     padding: 2,
 };
 
+// What is said of FULL where it is cut after so many bytes.
+fn fault_at(size: usize) -> RtpFault {
+    match size {
+        0..=11 => RtpFault::Short,
+        12..=15 => RtpFault::Csrc,
+        16..=23 => RtpFault::Extension,
+        _ => RtpFault::Padding,
+    }
+}
+
+// Without padding the payload's last bytes may be cut off: how many are left.
+fn payload_at(size: usize) -> Result<usize, RtpFault> {
+    match size {
+        0..=23 => Err(fault_at(size)),
+        _ => Ok(size.saturating_sub(24)),
+    }
+}
+
+fn is_cut(size: usize) -> bool {
+    let mut plain = FULL;
+    plain[0] = 0x91;
+    match (FULL.get(..size), plain.get(..size)) {
+        (Some(full), Some(plain)) => {
+            read_rtp(full) == Err(fault_at(size))
+                && read_rtp(plain).map(|read| read.payload.len()) == payload_at(size)
+        }
+        _ => false,
+    }
+}
+
+// The first byte, what stands behind twelve bytes, and the payload with the count of padding bytes, or the fault.
+type Row = (u8, &'static [u8], Result<(&'static [u8], u8), RtpFault>);
+
+const ROWS: &[Row] = &[
+    (0x40, &[], Err(RtpFault::Version)),
+    (0x00, &[], Err(RtpFault::Version)),
+    (0xC0, &[], Err(RtpFault::Version)),
+    (0x7F, &[], Err(RtpFault::Version)),
+    (0x81, &[], Err(RtpFault::Csrc)),
+    (0xB1, &[], Err(RtpFault::Csrc)),
+    (0x90, &[], Err(RtpFault::Extension)),
+    (0xB0, &[], Err(RtpFault::Extension)),
+    (0xA0, &[], Err(RtpFault::Padding)),
+    (0xA0, &[0xF8, 0], Err(RtpFault::Padding)),
+    (0xA0, &[0xF8, 1], Ok((&[0xF8], 1))),
+    (0xA0, &[0xF8, 2], Ok((&[], 2))),
+    (0xA0, &[0xF8, 3], Err(RtpFault::Padding)),
+    (0xA0, &[1], Ok((&[], 1))),
+    (0x80, &[], Ok((&[], 0))),
+    (0x80, &[0xF8, 1], Ok((&[0xF8, 1], 0))),
+];
+
 // A packet of this first byte, eleven zeros and what stands behind them.
 fn packet(alloc: Global, first: u8, rest: &[u8]) -> Result<Vec<u8>, AllocError> {
     let mut bytes = Vec::new(alloc);
@@ -31,115 +83,106 @@ fn packet(alloc: Global, first: u8, rest: &[u8]) -> Result<Vec<u8>, AllocError> 
     Ok(bytes)
 }
 
-// Each front of a packet, with padding and without, where the payload's last bytes may be cut off.
-#[test]
-fn the_first_field_that_is_cut_is_named(rt: HostRuntime) -> Result<(), Fail> {
-    let mut plain = FULL;
-    plain[0] = 0x91;
-    for size in 0..FULL.len() {
-        let fault = match size {
-            0..=11 => RtpFault::Short,
-            12..=15 => RtpFault::Csrc,
-            16..=23 => RtpFault::Extension,
-            _ => RtpFault::Padding,
-        };
-        assert_eq!(rt; read_rtp(&FULL[..size]), Err(fault));
-        let read = read_rtp(&plain[..size]).map(|read| read.payload.len());
-        match size {
-            0..=23 => assert_eq!(rt; read, Err(fault)),
-            _ => assert_eq!(rt; read, Ok(size - 24)),
-        }
-    }
-    assert_eq!(rt; read_rtp(&FULL), Ok(READ));
-    Ok(())
+fn is_said(alloc: Global, row: &Row) -> Result<bool, AllocError> {
+    let bytes = packet(alloc, row.0, row.1)?;
+    Ok(read_rtp(&bytes).map(|read| (read.payload, read.padding)) == row.2)
 }
 
-// The first byte, what stands behind twelve bytes, and the payload with the count of padding bytes, or the fault.
 #[test]
 fn faults_stand_in_their_order(rt: HostRuntime) -> Result<(), Fail> {
-    let alloc = rt.alloc();
-    let none = &[][..];
-    let rows: [(u8, &[u8], Result<(&[u8], u8), RtpFault>); 16] = [
-        (0x40, none, Err(RtpFault::Version)),
-        (0x00, none, Err(RtpFault::Version)),
-        (0xC0, none, Err(RtpFault::Version)),
-        (0x7F, none, Err(RtpFault::Version)),
-        (0x81, none, Err(RtpFault::Csrc)),
-        (0xB1, none, Err(RtpFault::Csrc)),
-        (0x90, none, Err(RtpFault::Extension)),
-        (0xB0, none, Err(RtpFault::Extension)),
-        (0xA0, none, Err(RtpFault::Padding)),
-        (0xA0, &[0xF8, 0], Err(RtpFault::Padding)),
-        (0xA0, &[0xF8, 1], Ok((&[0xF8], 1))),
-        (0xA0, &[0xF8, 2], Ok((none, 2))),
-        (0xA0, &[0xF8, 3], Err(RtpFault::Padding)),
-        (0xA0, &[1], Ok((none, 1))),
-        (0x80, none, Ok((none, 0))),
-        (0x80, &[0xF8, 1], Ok((&[0xF8, 1], 0))),
-    ];
-    for (first, rest, expected) in rows {
-        let bytes = packet(alloc, first, rest)?;
-        let read = read_rtp(&bytes).map(|read| (read.payload, read.padding));
-        assert_eq!(rt; read, expected);
+    for size in 0..29 {
+        assert!(rt; is_cut(size), "{size}");
+    }
+    for row in ROWS {
+        assert!(rt; is_said(rt.alloc(), row)?, "{row:?}");
     }
     let short = [0x80, 0, 0, 0, 0, 0, 0, 0, 0, 0, 0];
-    assert_eq!(rt; read_rtp(&short), Err(RtpFault::Short));
+    assert!(rt; read_rtp(&short) == Err(RtpFault::Short));
     Ok(())
 }
 
-// Fifteen CSRCs, and an extension of 65,535 words, each cut by one byte.
-#[test]
-fn the_largest_counts_are_read(rt: HostRuntime) -> Result<(), Fail> {
-    let alloc = rt.alloc();
-    let csrc = packet(alloc, 0x8F, &[7; 60])?;
-    assert_eq!(rt; read_rtp(&csrc).map(|read| read.csrc), Ok(&[7; 60][..]));
-    assert_eq!(rt; read_rtp(&csrc[..71]), Err(RtpFault::Csrc));
-    let mut long = packet(alloc, 0x90, &[1, 2, 0xFF, 0xFF])?;
-    long.extend_from_slice(&vec![in alloc; 9; 262_140]?)?;
-    let read = read_rtp(&long).map(|read| read.extension);
-    assert_eq!(rt; read, Ok(Some((0x0102, &long[16..]))));
-    let cut = &long[..long.len() - 1];
-    assert_eq!(rt; read_rtp(cut), Err(RtpFault::Extension));
-    Ok(())
+// Fifteen CSRCs, cut by one byte.
+fn most_csrcs_are_read(alloc: Global) -> Result<bool, AllocError> {
+    let bytes = packet(alloc, 0x8F, &[7; 60])?;
+    let read = read_rtp(&bytes).map(|read| read.csrc);
+    Ok(read == Ok([7; 60].as_slice()) && is_cut_by_one(&bytes, RtpFault::Csrc))
+}
+
+// An extension of 65,535 words, cut by one byte.
+fn longest_extension_is_read(alloc: Global) -> Result<bool, AllocError> {
+    let mut bytes = packet(alloc, 0x90, &[1, 2, 0xFF, 0xFF])?;
+    let words = vec![in alloc; 9; 262_140]?;
+    bytes.extend_from_slice(&words)?;
+    let read = read_rtp(&bytes).map(|read| read.extension);
+    Ok(read == Ok(Some((0x0102, words.as_slice()))) && is_cut_by_one(&bytes, RtpFault::Extension))
+}
+
+fn is_cut_by_one(bytes: &[u8], fault: RtpFault) -> bool {
+    match bytes.split_last() {
+        Some((_, front)) => read_rtp(front) == Err(fault),
+        None => false,
+    }
 }
 
 // Marker, payload type and the byte that has both.
-#[test]
-fn what_is_written_is_read(rt: HostRuntime) -> Result<(), Fail> {
-    let alloc = rt.alloc();
-    let rows = [
-        (false, 0, 0x00),
-        (false, 111, 0x6F),
-        (false, 127, 0x7F),
-        (true, 0, 0x80),
-        (true, 127, 0xFF),
+const WRITTEN: &[(bool, u8, u8)] = &[
+    (false, 0, 0x00),
+    (false, 111, 0x6F),
+    (false, 127, 0x7F),
+    (true, 0, 0x80),
+    (true, 127, 0xFF),
+];
+
+// The packet that is written of a row's marker and payload type.
+fn written(row: &(bool, u8, u8)) -> Rtp<'static> {
+    Rtp {
+        marker: row.0,
+        payload_type: row.1,
+        seq: 0xFFFE,
+        stamp: 0xFFFF_FED8,
+        ssrc: 0x0102_0304,
+        csrc: &[],
+        extension: None,
+        payload: &[0xF8, 0xAA],
+        padding: 0,
+    }
+}
+
+fn fields(read: &Rtp<'_>) -> RtpFields {
+    RtpFields {
+        marker: read.marker,
+        payload_type: read.payload_type,
+        seq: read.seq,
+        stamp: read.stamp,
+        ssrc: read.ssrc,
+    }
+}
+
+// The byte 5 stands before the packet, which is written behind it.
+fn is_written(alloc: Global, row: &(bool, u8, u8)) -> Result<bool, AllocError> {
+    let read = written(row);
+    let fields = fields(&read);
+    let mut out = Vec::from_slice(alloc, &[5])?;
+    let answer = fields.payload_type < 128 && write_rtp(fields, read.payload, &mut out) == Ok(());
+    let expected = [
+        5, 0x80, row.2, 0xFF, 0xFE, 0xFF, 0xFF, 0xFE, 0xD8, 1, 2, 3, 4, 0xF8, 0xAA,
     ];
-    for (marker, payload_type, second) in rows {
-        let fields = RtpFields {
-            marker,
-            payload_type,
-            seq: 0xFFFE,
-            stamp: 0xFFFF_FED8,
-            ssrc: 0x0102_0304,
-        };
-        let mut out = Vec::from_slice(alloc, &[5])?;
-        assert_eq!(rt; write_rtp(fields, &[0xF8, 0xAA], &mut out), Ok(()));
-        let expected = [
-            5, 0x80, second, 0xFF, 0xFE, 0xFF, 0xFF, 0xFE, 0xD8, 1, 2, 3, 4, 0xF8, 0xAA,
-        ];
-        assert_eq!(rt; out.as_slice(), &expected[..]);
-        let read = Rtp {
-            marker,
-            payload_type,
-            seq: fields.seq,
-            stamp: fields.stamp,
-            ssrc: fields.ssrc,
-            csrc: &[],
-            extension: None,
-            payload: &[0xF8, 0xAA],
-            padding: 0,
-        };
-        assert_eq!(rt; read_rtp(&out[1..]), Ok(read));
+    Ok(answer && out.as_slice() == expected.as_slice() && is_read(&out, &read))
+}
+
+fn is_read(bytes: &[u8], packet: &Rtp<'_>) -> bool {
+    match bytes.split_first() {
+        Some((_, rest)) => read_rtp(rest) == Ok(*packet),
+        None => false,
+    }
+}
+
+#[test]
+fn packets_are_read_and_written(rt: HostRuntime) -> Result<(), Fail> {
+    assert!(rt; read_rtp(&FULL) == Ok(READ));
+    assert!(rt; most_csrcs_are_read(rt.alloc())? && longest_extension_is_read(rt.alloc())?);
+    for row in WRITTEN {
+        assert!(rt; is_written(rt.alloc(), row)?, "{row:?}");
     }
     Ok(())
 }

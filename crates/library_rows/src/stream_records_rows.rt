@@ -5,13 +5,13 @@ mod raw;
 mod runs;
 mod stores;
 
-use stream_records::{StreamsFound, StreamsItem};
 use job_loop::Form;
 use opus_feed::Padding;
 use opus_packet::{Fault, Rule};
 use pack_records::Cut;
 use std::process::Abort;
 use std::test::Fail;
+use stream_records::{StreamsFound, StreamsItem};
 
 // The sizes of the pieces in which an input is fed.
 const STEPS: [usize; 3] = [1, 3, 4096];

@@ -1,6 +1,6 @@
 //! Texts and what they write.
-use text_numbers::read_number;
 use std::test::Fail;
+use text_numbers::read_number;
 
 // A text, the bounds, and the number.
 static ROWS: [(&[u8], u32, u32, Option<u32>); 14] = [

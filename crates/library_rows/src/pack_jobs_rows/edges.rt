@@ -1,65 +1,44 @@
 //! Long inputs, and runs that the outside ends.
-use super::{Refused, STEPS, Work, ending, run};
+use super::{EACH_STEP, Long, Parts, Way, Work, ends_so, is_long};
 use opus_words::{Ending, Form};
 use std::alloc::Global;
 use std::test::Fail;
 
-// Bytes, each so many times, one behind the other.
-type Parts = &'static [(u8, usize)];
+const NORM: Work = Work::Norm(Form::Raw);
 
-fn joined(alloc: Global, parts: Parts) -> Result<Vec<u8>, Fail> {
-    let mut bytes = Vec::new(alloc);
-    for (byte, times) in parts {
-        for _ in 0..*times {
-            bytes.push(*byte)?;
-        }
-    }
-    Ok(bytes)
-}
+const KEEP: Work = Work::Keep(Form::Raw);
 
-const LONGEST: Parts = &[(0xf8, 1), (0, 1275)];
+const LONGEST: Parts = &[(b"\xf8", 1), (b"\0", 1275)];
 
-const ONE_PADDED: Parts = &[(0xfb, 1), (0x41, 1), (0xfe, 1), (0xaa, 1), (0, 254)];
+const ONE_PADDED: Parts = &[(b"\xfb\x41\xfe\xaa", 1), (b"\0", 254)];
 
-// A job, a long input in form raw, a refusal of it, if there is one, and all that is written.
-type Long = (Work, Parts, Option<Refused>, Parts);
+// One byte of padding length more.
+const ONE_PADDED_LONGER: Parts = &[(b"\xfb\x41\xff\0\xaa", 1), (b"\0", 254)];
 
-const LONG: [Long; 7] = [
+const LONG: &[Long<Work>] = &[
     (
-        Work::Norm,
-        &[(0xf8, 1), (0, 1276)],
+        NORM,
+        &[(b"\xf8", 1), (b"\0", 1276)],
         Some((0, 1276, "R2 at 1276")),
         &[],
     ),
-    (Work::Norm, LONGEST, None, LONGEST),
-    (Work::Norm, ONE_PADDED, None, &[(0xf8, 1), (0xaa, 1)]),
+    (NORM, LONGEST, None, LONGEST),
+    (NORM, ONE_PADDED, None, &[(b"\xf8\xaa", 1)]),
+    (NORM, ONE_PADDED_LONGER, None, &[(b"\xf8\xaa", 1)]),
     (
-        Work::Norm,
-        &[(0xfb, 1), (0x41, 1), (0xff, 1), (0, 1), (0xaa, 1), (0, 254)],
-        None,
-        &[(0xf8, 1), (0xaa, 1)],
-    ),
-    (
-        Work::Norm,
-        &[(0xfb, 1), (0x41, 1), (0xff, 65_793)],
+        NORM,
+        &[(b"\xfb\x41", 1), (b"\xff", 65_793)],
         Some((0, 65_794, "PadLimit at 65794")),
         &[],
     ),
+    (KEEP, ONE_PADDED_LONGER, None, ONE_PADDED),
     (
-        Work::Keep,
-        &[(0xfb, 1), (0x41, 1), (0xff, 1), (0, 1), (0xaa, 1), (0, 254)],
-        None,
-        ONE_PADDED,
-    ),
-    (
-        Work::Keep,
+        KEEP,
         &[
-            (0xfb, 1),
-            (0x41, 1),
-            (0xff, 258),
-            (4, 1),
-            (0xaa, 1),
-            (0, 65_536),
+            (b"\xfb\x41", 1),
+            (b"\xff", 258),
+            (b"\x04\xaa", 1),
+            (b"\0", 65_536),
         ],
         Some((0, 65_798, "padding long")),
         &[],
@@ -68,16 +47,8 @@ const LONG: [Long; 7] = [
 
 #[test]
 fn long_inputs_end_so(rt: HostRuntime) -> Result<(), Fail> {
-    let alloc = rt.alloc();
-    for (work, input, refused, text) in LONG {
-        let input = joined(alloc, input)?;
-        let text = joined(alloc, text)?;
-        for step in STEPS {
-            let none = ([].as_slice(), [].as_slice());
-            let (end, sink) = run(alloc, (work, Form::Raw), &input, 1 << 40, step, none)?;
-            assert_eq!(rt; end, ending(refused));
-            assert_eq!(rt; sink.contents() == text.as_slice(), true);
-        }
+    for row in LONG {
+        assert!(rt; is_long(rt.alloc(), row, &EACH_STEP)?, "{row:?}");
     }
     Ok(())
 }
@@ -89,25 +60,36 @@ const FIRST: &[u8] = b"\0\0\0\x02\0\0\0\x01\xf8\xaa";
 
 const FIRST_AND_A_BYTE: &[u8] = b"\0\0\0\x02\0\0\0\x01\xf8\xaa\0";
 
-// A limit, the reads and the writes that fail, how norm ends over these records, and what it writes.
-type Around = (u64, &'static [u64], &'static [u64], Ending, &'static [u8]);
+// A limit with the reads and the writes that fail, how norm ends over these records, and what it writes.
+type Around = (Way<'static>, Ending, &'static [u8]);
 
 const AROUND: [Around; 6] = [
-    (20, &[], &[], Ending::Ok, STORE),
-    (19, &[], &[], Ending::InputLimit, FIRST),
-    (9, &[], &[], Ending::InputLimit, b""),
-    (20, &[1], &[], Ending::ReadFault, b""),
-    (20, &[12], &[], Ending::ReadFault, FIRST),
-    (20, &[], &[12], Ending::WriteFault, FIRST_AND_A_BYTE),
+    ((20, &[(1, 1)], &[], &[]), Ending::Ok, STORE),
+    ((19, &[(1, 1)], &[], &[]), Ending::InputLimit, FIRST),
+    ((9, &[(1, 1)], &[], &[]), Ending::InputLimit, b""),
+    ((20, &[(1, 1)], &[1], &[]), Ending::ReadFault, b""),
+    ((20, &[(1, 1)], &[12], &[]), Ending::ReadFault, FIRST),
+    (
+        (20, &[(1, 1)], &[], &[12]),
+        Ending::WriteFault,
+        FIRST_AND_A_BYTE,
+    ),
 ];
+
+fn is_around(alloc: Global, row: &Around) -> Result<bool, Fail> {
+    ends_so(
+        alloc,
+        &Work::Norm(Form::Demo),
+        STORE,
+        &row.0,
+        (&row.1, row.2),
+    )
+}
 
 #[test]
 fn the_outside_ends_a_run_so(rt: HostRuntime) -> Result<(), Fail> {
-    for (limit, reads, writes, ending, text) in AROUND {
-        let fails = (reads, writes);
-        let (end, sink) = run(rt.alloc(), (Work::Norm, Form::Demo), STORE, limit, 1, fails)?;
-        assert_eq!(rt; end, ending);
-        assert_eq!(rt; sink.contents(), text);
+    for row in &AROUND {
+        assert!(rt; is_around(rt.alloc(), row)?, "{row:?}");
     }
     Ok(())
 }

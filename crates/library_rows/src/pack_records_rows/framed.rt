@@ -1,9 +1,9 @@
 //! Self-delimited packets one after another.
 
 use super::{DROP, KEEP, Row, STEPS, bad, packet, says};
-use pack_records::SelfForm;
 use opus_feed::{Framing, Padding};
 use opus_packet::Rule;
+use pack_records::SelfForm;
 use std::test::Fail;
 
 fn one(start: u64, code: u8, pad: u32, size: u32, bytes: &'static [u8]) -> Row {

@@ -1,6 +1,6 @@
 //! The packets that lent bytes spell.
-use pack_records::lent_packet;
 use opus_feed::Framing;
+use pack_records::lent_packet;
 use std::test::Fail;
 
 // A framing, bytes, and the frames of the packet that all of them spell, one behind the other, if they spell one.

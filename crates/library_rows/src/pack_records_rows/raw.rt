@@ -1,9 +1,9 @@
 //! One undelimited packet.
 
 use super::{DROP, KEEP, Row, STEPS, bad, packet, says};
-use pack_records::RawForm;
 use opus_feed::{Framing, Padding};
 use opus_packet::Rule;
+use pack_records::RawForm;
 use std::test::Fail;
 
 fn whole(code: u8, pad: u32, size: u32, bytes: &'static [u8]) -> Row {

@@ -3,9 +3,9 @@ ghost use Rattle.std.specs.Prelude.{[]};
 ghost use Rattle.job_loop.specs.Meaning.{goes};
 
 use super::{DROP, STEPS};
-use pack_records::{Cut, Item, RawForm, SelfForm};
 use job_loop::{Ending, InputEnd, JobStop, Lent, RecordJob, run_job};
 use opus_io::{MemorySink, MemorySource, Sink, write_all};
+use pack_records::{Cut, Item, RawForm, SelfForm};
 use std::test::Fail;
 
 #[derive(Drop)]

@@ -1,6 +1,6 @@
 //! Records sent in order, with losses, and numbers and stamps that wrap.
-use rtp_ends::Sender;
 use opus_packet::decode;
+use rtp_ends::Sender;
 use std::test::Fail;
 
 // Sends these packets; an empty one is lost.

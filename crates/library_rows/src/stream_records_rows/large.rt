@@ -1,12 +1,12 @@
 //! Many streams, and much padding.
 
 use super::{DROP, KEEP, MOST, STEPS, Spelled, are_spelled};
-use stream_records::{RawStreams, StreamsFound, StreamsItem};
 use job_loop::Form;
 use opus_feed::Padding;
 use pack_records::Cut;
 use std::alloc::Global;
 use std::test::Fail;
+use stream_records::{RawStreams, StreamsFound, StreamsItem};
 
 // Feeds all of the input in pieces of `step` bytes. Whether none of them decides its record.
 fn is_open_to_its_end<F: Form<Record = StreamsItem, Cut = Cut>>(

@@ -3,7 +3,6 @@
 use super::{
     DROP, KEEP, PADDED, PADDED_KEPT, PLAIN, Row, STEPS, UNEQUAL, broken, packets, says, unequal,
 };
-use stream_records::{RawStreams, StreamsFound, StreamsItem};
 use job_loop::Form;
 use opus_feed::Padding;
 use opus_multi::{MultiFault, decode_multi};
@@ -12,6 +11,7 @@ use pack_records::Cut;
 use std::alloc::Global;
 use std::process::Abort;
 use std::test::Fail;
+use stream_records::{RawStreams, StreamsFound, StreamsItem};
 
 // An input, its number of streams, what becomes of padding bytes, and its one record.
 type Input = (&'static [u8], u8, Padding, Row);

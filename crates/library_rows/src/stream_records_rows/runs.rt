@@ -3,11 +3,11 @@ ghost use Rattle.std.specs.Prelude.{[]};
 ghost use Rattle.job_loop.specs.Meaning.{goes};
 
 use super::{DROP, PADDED, PLAIN, STEPS};
-use stream_records::{DemoStreams, RawStreams, StreamsItem};
 use job_loop::{Ending, InputEnd, JobStop, Lent, RecordJob, run_job};
 use opus_io::{MemorySink, MemorySource, Sink, write_all};
 use pack_records::Cut;
 use std::test::Fail;
+use stream_records::{DemoStreams, RawStreams, StreamsItem};
 
 #[derive(Drop)]
 struct Texts;

@@ -1,10 +1,10 @@
 //! Stores of multistream packets.
 
 use super::{DROP, KEEP, PADDED_KEPT, PLAIN, Row, STEPS, broken, packets, says, unequal};
-use stream_records::{DemoStreams, StreamsFound};
 use opus_feed::Padding;
 use opus_packet::Rule;
 use std::test::Fail;
+use stream_records::{DemoStreams, StreamsFound};
 
 const TWO: &[(u8, u32, u32, u32)] = &[(0, 0, 3, 0), (0, 0, 2, 0)];
 
