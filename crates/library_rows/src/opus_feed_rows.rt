@@ -2,6 +2,7 @@
 use opus_feed::{Feed, Framing, Padding, Step};
 use opus_packet::{Fault, Packet, Rule, Tail, decode};
 use opus_self::decode_self;
+use std::alloc::Global;
 use std::test::Fail;
 
 // What is said of bytes: size, number of frames, padding total, bytes of all frames and their sum; or the fault.
@@ -67,17 +68,16 @@ fn stepped(feed: &mut Feed, framing: Framing, bytes: &[u8], step: usize) -> Said
 }
 
 // The first bytes, and bytes from 0 on behind them.
-fn filled(rt: &HostRuntime, front: &[u8], more: usize) -> Result<Vec<u8>, Fail> {
-    let mut bytes = Vec::new(rt.alloc());
-    bytes.extend_from_slice(front)?;
+fn filled(alloc: Global, front: &[u8], more: usize) -> Result<Vec<u8>, Fail> {
+    let mut bytes = Vec::from_slice(alloc, front)?;
     for k in 0..more {
         bytes.push((k % 251) as u8)?;
     }
     Ok(bytes)
 }
 
-// Rows: the first bytes, and how many more there are.
-const ROWS: [(&[u8], usize); 24] = [
+// The first bytes, and how many more there are.
+const ROWS: &[(&[u8], usize)] = &[
     (&[], 0),
     (&[0x08], 0),
     (&[0xF8], 1275),
@@ -104,59 +104,125 @@ const ROWS: [(&[u8], usize); 24] = [
     (&[0xFB, 0x81, 0xAA], 0),
 ];
 
+// Whether each cut of the bytes gives what is said of them whole.
+fn each_cut_agrees(feed: &mut Feed, framing: Framing, bytes: &[u8]) -> bool {
+    let want = whole(framing, bytes);
+    let mut agrees = true;
+    for step in [1, 2, 3, 7, 1000] {
+        agrees &= stepped(feed, framing, bytes, step) == want;
+    }
+    for at in 0..bytes.len() {
+        agrees &= cut(feed, framing, &bytes[..at], &bytes[at..]) == want;
+    }
+    agrees
+}
+
+const CHOICES: &[(Framing, Padding)] = &[
+    (Framing::Whole, Padding::Drop),
+    (Framing::Whole, Padding::Keep),
+    (Framing::SelfDelimited, Padding::Drop),
+    (Framing::SelfDelimited, Padding::Keep),
+];
+
+// Whether each cut of each row agrees, in one feed.
+fn is_said(
+    alloc: Global,
+    feed: &mut Feed,
+    framing: Framing,
+    row: &(&[u8], usize),
+) -> Result<bool, Fail> {
+    let bytes = filled(alloc, row.0, row.1)?;
+    Ok(each_cut_agrees(feed, framing, &bytes))
+}
+
 #[test]
 fn each_cut_says_what_decode_says(rt: HostRuntime) -> Result<(), Fail> {
-    for framing in [Framing::Whole, Framing::SelfDelimited] {
-        for padding in [Padding::Drop, Padding::Keep] {
-            let mut feed = Feed::new(rt.alloc(), framing, padding)?;
-            for (front, more) in ROWS {
-                let bytes = filled(&rt, front, more)?;
-                let bytes = bytes.as_slice();
-                let want = whole(framing, bytes);
-                for step in [1, 2, 3, 7, 1000] {
-                    assert_eq!(rt;
-                        stepped(&mut feed, framing, bytes, step),
-                        want,
-                        "{front:?} by {step}"
-                    );
-                }
-                for at in 0..bytes.len() {
-                    assert_eq!(rt;
-                        cut(&mut feed, framing, &bytes[..at], &bytes[at..]),
-                        want,
-                        "{front:?} at {at}"
-                    );
-                }
-            }
+    for choice in CHOICES {
+        let mut feed = Feed::new(rt.alloc(), choice.0, choice.1)?;
+        for row in ROWS {
+            assert!(rt;
+                is_said(rt.alloc(), &mut feed, choice.0, row)?,
+                "{row:?} {choice:?}"
+            );
         }
     }
     Ok(())
 }
 
+/// What is done with a feed, and what is said then. A piece is its first bytes, and so many from 0 on behind them.
+#[derive(Clone, Copy, Debug)]
+enum Call {
+    Reset(Framing),
+    Feed(&'static [u8], usize, Step),
+    Finish(Result<(), Fault>),
+    Len(u64),
+}
+
+const TOO_LONG: Fault = Fault {
+    rule: Rule::R2,
+    place: 1276,
+};
+
+// The very byte is refused that is too many, and none behind a packet is taken.
+const CALLS: &[Call] = &[
+    Call::Feed(&[0xF8], 1275, Step::More),
+    Call::Feed(&[], 0, Step::More),
+    Call::Feed(&[9], 0, Step::Refused(TOO_LONG)),
+    Call::Feed(&[9], 0, Step::Refused(TOO_LONG)),
+    Call::Finish(Err(TOO_LONG)),
+    Call::Len(1276),
+    Call::Reset(Framing::SelfDelimited),
+    Call::Feed(&[0xF8, 2, 0xAA], 0, Step::More),
+    Call::Feed(&[0xBB, 0xF8, 0], 0, Step::Done(1)),
+    Call::Feed(&[0xBB], 0, Step::Done(0)),
+    Call::Finish(Ok(())),
+    Call::Len(4),
+];
+
+fn is_done(alloc: Global, feed: &mut Feed, call: Call) -> Result<bool, Fail> {
+    match call {
+        Call::Reset(framing) => {
+            feed.reset(framing);
+            Ok(true)
+        }
+        Call::Feed(front, more, step) => Ok(feed.feed(&filled(alloc, front, more)?) == step),
+        Call::Finish(said) => Ok(feed.finish() == said),
+        Call::Len(len) => Ok(feed.len() == len),
+    }
+}
+
 #[test]
-fn refuses_at_the_very_byte(rt: HostRuntime) -> Result<(), Fail> {
+fn calls_have_their_answers(rt: HostRuntime) -> Result<(), Fail> {
     let mut feed = Feed::new(rt.alloc(), Framing::Whole, Padding::Drop)?;
-    let long = filled(&rt, &[0xF8], 1275)?;
-    let fault = Fault {
-        rule: Rule::R2,
-        place: 1276,
-    };
-    assert_eq!(rt; feed.feed(long.as_slice()), Step::More);
-    assert_eq!(rt; feed.feed(&[]), Step::More);
-    assert_eq!(rt; feed.feed(&[9]), Step::Refused(fault));
-    assert_eq!(rt; feed.feed(&[9]), Step::Refused(fault));
-    assert_eq!(rt; feed.finish(), Err(fault));
-    assert_eq!(rt; feed.len(), 1276);
-    feed.reset(Framing::SelfDelimited);
-    assert_eq!(rt; feed.feed(&[0xF8, 2, 0xAA]), Step::More);
-    assert_eq!(rt; feed.feed(&[0xBB, 0xF8, 0]), Step::Done(1));
-    assert_eq!(rt; feed.feed(&[0xBB]), Step::Done(0));
-    assert_eq!(rt; feed.finish(), Ok(()));
-    assert_eq!(rt; feed.len(), 4);
+    for call in CALLS {
+        assert!(rt; is_done(rt.alloc(), &mut feed, *call)?, "{call:?}");
+    }
     Ok(())
 }
 
-// How many padding bytes a packet has, and how many of them are kept.
+// The bytes 255 of a padding length, its last byte, how many padding bytes it tells, and how many are dropped and kept.
+type Padded = (usize, u8, usize, (u32, usize));
+
+const PADDINGS: &[Padded] = &[
+    (0, 0, 0, (0, 0)),
+    (0, 1, 1, (0, 1)),
+    (258, 3, 65_535, (0, 65_535)),
+    (258, 4, 65_536, (65_536, 0)),
+];
+
+fn padded(alloc: Global, row: &Padded) -> Result<Vec<u8>, Fail> {
+    let mut bytes = Vec::from_slice(alloc, &[0xFB, 0x41])?;
+    for _ in 0..row.0 {
+        bytes.push(255)?;
+    }
+    bytes.extend_from_slice(&[row.1, 0xAA])?;
+    for _ in 0..row.2 {
+        bytes.push(7)?;
+    }
+    Ok(bytes)
+}
+
+// How many padding bytes of a packet are dropped, and how many are kept.
 fn tail(packet: &Packet<'_>) -> (u32, usize) {
     match packet.tail() {
         Tail::Bytes(bytes) => (0, bytes.len()),
@@ -164,65 +230,62 @@ fn tail(packet: &Packet<'_>) -> (u32, usize) {
     }
 }
 
-// Rows: the padding length, how many padding bytes it says, and what is kept of them.
+fn has_tail(feed: &Feed, want: (u32, usize)) -> bool {
+    if !feed.is_done() {
+        return false;
+    }
+    let packet = feed.packet();
+    tail(&packet) == want && packet.body() == [0xAA].as_slice()
+}
+
+fn is_kept(alloc: Global, feed: &mut Feed, row: &Padded) -> Result<bool, Fail> {
+    feed.reset(Framing::Whole);
+    let more = feed.feed(&padded(alloc, row)?) == Step::More;
+    Ok(more && feed.finish() == Ok(()) && has_tail(feed, row.3))
+}
+
 #[test]
-fn keeps_a_tail_of_65535_bytes(rt: HostRuntime) -> Result<(), Fail> {
+fn a_tail_of_65535_bytes_is_kept(rt: HostRuntime) -> Result<(), Fail> {
     let mut feed = Feed::new(rt.alloc(), Framing::Whole, Padding::Keep)?;
-    let table: [(usize, u8, usize, (u32, usize)); 4] = [
-        (0, 0, 0, (0, 0)),
-        (0, 1, 1, (0, 1)),
-        (258, 3, 65_535, (0, 65_535)),
-        (258, 4, 65_536, (65_536, 0)),
-    ];
-    for (full, last, count, want) in table {
-        let mut bytes = Vec::new(rt.alloc());
-        bytes.extend_from_slice(&[0xFB, 0x41])?;
-        bytes.resize(2 + full, 255)?;
-        bytes.extend_from_slice(&[last, 0xAA])?;
-        bytes.resize(bytes.len() + count, 7)?;
-        feed.reset(Framing::Whole);
-        assert_eq!(rt; feed.feed(bytes.as_slice()), Step::More);
-        assert_eq!(rt; feed.finish(), Ok(()));
-        if feed.is_done() {
-            assert_eq!(rt; tail(&feed.packet()), want);
-            assert_eq!(rt; feed.packet().body(), [0xAA].as_slice());
-        }
+    for row in PADDINGS {
+        assert!(rt; is_kept(rt.alloc(), &mut feed, row)?, "{row:?}");
     }
     Ok(())
 }
 
-#[test]
-fn reads_the_longest_padding_in_little_memory(rt: HostRuntime) -> Result<(), Fail> {
-    let mut feed = Feed::new(rt.alloc(), Framing::Whole, Padding::Drop)?;
-    let full = [255u8; 1000];
-    let zeros = [0u8; 1000];
-    let mut most = 0;
-    assert_eq!(rt; feed.feed(&[0xFB, 0x41]), Step::More);
-    for _ in 0..65 {
-        assert_eq!(rt; feed.feed(&full), Step::More);
+// Feeds a piece so often. Whether more is wanted after each, and the most bytes that are held.
+fn fed(feed: &mut Feed, piece: &[u8], times: u32) -> (bool, usize) {
+    let (mut more, mut most) = (true, 0);
+    for _ in 0..times {
+        more &= feed.feed(piece) == Step::More;
+        most = feed.held().max(most);
     }
-    assert_eq!(rt; feed.feed(&full[..792]), Step::More);
-    assert_eq!(rt; feed.feed(&[254, 0xAA]), Step::More);
-    for _ in 0..16_711 {
-        assert_eq!(rt; feed.feed(&zeros), Step::More);
-        most = most.max(feed.held());
-    }
-    assert_eq!(rt; feed.feed(&zeros[..422]), Step::More);
-    assert_eq!(rt; feed.finish(), Ok(()));
-    assert_eq!(rt; feed.len(), 16_777_218);
-    assert_eq!(rt; most, 1275);
-    Ok(())
+    (more, most)
+}
+
+fn the_longest_padding_needs_little_memory(alloc: Global) -> Result<bool, Fail> {
+    let mut feed = Feed::new(alloc, Framing::Whole, Padding::Drop)?;
+    let length = fed(&mut feed, &[0xFB, 0x41], 1).0
+        && fed(&mut feed, &[255; 1000], 65).0
+        && fed(&mut feed, &[255; 792], 1).0
+        && fed(&mut feed, &[254, 0xAA], 1).0;
+    let (zeros, most) = fed(&mut feed, &[0; 1000], 16_711);
+    let rest = fed(&mut feed, &[0; 422], 1).0;
+    let read = length && zeros && rest && feed.finish() == Ok(());
+    Ok(read && (feed.len(), most) == (16_777_218, 1275))
+}
+
+fn holds_48_frames_of_1275_bytes(alloc: Global) -> Result<bool, Fail> {
+    let framing = Framing::SelfDelimited;
+    let mut feed = Feed::new(alloc, framing, Padding::Drop)?;
+    let bytes = filled(alloc, &[0x83, 0x30, 255, 255], 61_200)?;
+    let same = stepped(&mut feed, framing, &bytes, 1000) == whole(framing, &bytes);
+    Ok(same && feed.held() == 61_200)
 }
 
 #[test]
-fn holds_48_frames_of_1275_bytes(rt: HostRuntime) -> Result<(), Fail> {
-    let mut feed = Feed::new(rt.alloc(), Framing::SelfDelimited, Padding::Drop)?;
-    let bytes = filled(&rt, &[0x83, 0x30, 255, 255], 61_200)?;
-    let want = whole(Framing::SelfDelimited, bytes.as_slice());
-    assert_eq!(rt;
-        stepped(&mut feed, Framing::SelfDelimited, bytes.as_slice(), 1000),
-        want
-    );
-    assert_eq!(rt; feed.held(), 61_200);
+fn the_longest_packets_are_read(rt: HostRuntime) -> Result<(), Fail> {
+    assert!(rt; the_longest_padding_needs_little_memory(rt.alloc())?);
+    assert!(rt; holds_48_frames_of_1275_bytes(rt.alloc())?);
     Ok(())
 }

@@ -1,5 +1,5 @@
 //! Multistream packets in pieces, with their answers.
-use crate::opus_multi_rows::{BROKEN, GOOD, UNEQUAL, broken};
+use crate::opus_multi_rows::{Answer, ROWS, result_of};
 use opus_feed::Padding;
 use opus_multi::{MultiFault, MultiFeed, Part, decode_multi, write_multi};
 use opus_packet::{Rule, Tail};
@@ -121,100 +121,170 @@ fn each_cut_agrees(alloc: Global, bytes: &[u8], streams: u8) -> Result<bool, Fai
 
 #[test]
 fn each_cut_says_what_decode_multi_says(rt: HostRuntime) -> Result<(), Fail> {
-    let alloc = rt.alloc();
-    for (bytes, streams) in &GOOD {
-        assert!(rt; each_cut_agrees(alloc, bytes, *streams)?, "{bytes:?}");
-    }
-    for (bytes, streams, _, _, _) in &BROKEN {
-        assert!(rt; each_cut_agrees(alloc, bytes, *streams)?, "{bytes:?}");
-    }
-    for (bytes, streams, _) in &UNEQUAL {
-        assert!(rt; each_cut_agrees(alloc, bytes, *streams)?, "{bytes:?}");
+    for row in ROWS {
+        assert!(rt; each_cut_agrees(rt.alloc(), row.0, row.1)?, "{row:?}");
     }
     Ok(())
 }
 
-// Rows: how many bytes of `F8 01 AA F8 BB` come, how many parts there are then, and the fault of two streams.
-#[test]
-fn each_front_of_a_packet_has_its_fault(rt: HostRuntime) -> Result<(), Fail> {
-    let bytes = [0xF8, 1, 0xAA, 0xF8, 0xBB];
-    let table: [(usize, usize, Result<(), MultiFault>); 6] = [
-        (0, 0, Err(broken(0, Rule::Cut, 0))),
-        (1, 0, Err(broken(0, Rule::Cut, 1))),
-        (2, 0, Err(broken(0, Rule::Cut, 2))),
-        (3, 1, Err(broken(1, Rule::R1, 0))),
-        (4, 1, Ok(())),
-        (5, 1, Ok(())),
-    ];
-    let mut feed = MultiFeed::new(rt.alloc(), 2, Padding::Drop)?;
-    for (count, parts, want) in table {
-        feed.reset();
-        assert_eq!(rt; feed.feed(&bytes[..count]), Ok(()));
-        assert_eq!(rt; feed.parts().len(), parts);
-        assert_eq!(rt; feed.finish(), want, "{count}");
-    }
-    Ok(())
+/// What is done with a feed, and what is said then.
+#[derive(Clone, Copy, Debug)]
+enum Call {
+    Reset,
+    Feed(&'static [u8], Answer),
+    Finish(Answer),
+    Parts(usize),
 }
 
-// Rows: bytes, the byte behind them after which no continuation of three streams reads, and the fault.
-#[test]
-fn refuses_at_the_very_byte(rt: HostRuntime) -> Result<(), Fail> {
-    let table: [(&[u8], u8, MultiFault); 4] = [
-        (&[0xFB], 0, broken(0, Rule::R5, 1)),
-        (&[0xF8, 1, 0xAA, 0xFB], 7, broken(1, Rule::R5, 1)),
-        (&[0xF8, 0, 0xF0, 0, 0xFB], 0, broken(2, Rule::R5, 1)),
-        (&[0xF8, 0, 0xF0, 0, 0x83], 0x31, broken(2, Rule::R5, 1)),
-    ];
-    let mut feed = MultiFeed::new(rt.alloc(), 3, Padding::Keep)?;
-    for (bytes, byte, fault) in table {
-        feed.reset();
-        assert_eq!(rt; feed.feed(bytes), Ok(()));
-        assert_eq!(rt; feed.feed(&[]), Ok(()));
-        assert_eq!(rt; feed.feed(&[byte]), Err(fault));
-        assert_eq!(rt; feed.feed(&[0xF8]), Err(fault));
-        assert_eq!(rt; feed.finish(), Err(fault));
-        assert_eq!(rt; feed.finish(), Err(fault));
+// How many streams there are, the choice of padding, and calls one after the other.
+type Script = (u8, Padding, &'static [Call]);
+
+const SCRIPTS: &[Script] = &[
+    // Each front of a packet has its fault.
+    (
+        2,
+        Padding::Drop,
+        &[
+            Call::Reset,
+            Call::Feed(&[], Answer::Reads),
+            Call::Parts(0),
+            Call::Finish(Answer::Broken(0, Rule::Cut, 0)),
+            Call::Reset,
+            Call::Feed(&[0xF8], Answer::Reads),
+            Call::Parts(0),
+            Call::Finish(Answer::Broken(0, Rule::Cut, 1)),
+            Call::Reset,
+            Call::Feed(&[0xF8, 1], Answer::Reads),
+            Call::Parts(0),
+            Call::Finish(Answer::Broken(0, Rule::Cut, 2)),
+            Call::Reset,
+            Call::Feed(&[0xF8, 1, 0xAA], Answer::Reads),
+            Call::Parts(1),
+            Call::Finish(Answer::Broken(1, Rule::R1, 0)),
+            Call::Reset,
+            Call::Feed(&[0xF8, 1, 0xAA, 0xF8], Answer::Reads),
+            Call::Parts(1),
+            Call::Finish(Answer::Reads),
+            Call::Reset,
+            Call::Feed(&[0xF8, 1, 0xAA, 0xF8, 0xBB], Answer::Reads),
+            Call::Parts(1),
+            Call::Finish(Answer::Reads),
+        ],
+    ),
+    // The byte after which no continuation reads is refused, and so is all behind it.
+    (
+        3,
+        Padding::Keep,
+        &[
+            Call::Reset,
+            Call::Feed(&[0xFB], Answer::Reads),
+            Call::Feed(&[], Answer::Reads),
+            Call::Feed(&[0], Answer::Broken(0, Rule::R5, 1)),
+            Call::Feed(&[0xF8], Answer::Broken(0, Rule::R5, 1)),
+            Call::Finish(Answer::Broken(0, Rule::R5, 1)),
+            Call::Finish(Answer::Broken(0, Rule::R5, 1)),
+            Call::Reset,
+            Call::Feed(&[0xF8, 1, 0xAA, 0xFB], Answer::Reads),
+            Call::Feed(&[], Answer::Reads),
+            Call::Feed(&[7], Answer::Broken(1, Rule::R5, 1)),
+            Call::Feed(&[0xF8], Answer::Broken(1, Rule::R5, 1)),
+            Call::Finish(Answer::Broken(1, Rule::R5, 1)),
+            Call::Finish(Answer::Broken(1, Rule::R5, 1)),
+            Call::Reset,
+            Call::Feed(&[0xF8, 0, 0xF0, 0, 0xFB], Answer::Reads),
+            Call::Feed(&[], Answer::Reads),
+            Call::Feed(&[0], Answer::Broken(2, Rule::R5, 1)),
+            Call::Feed(&[0xF8], Answer::Broken(2, Rule::R5, 1)),
+            Call::Finish(Answer::Broken(2, Rule::R5, 1)),
+            Call::Finish(Answer::Broken(2, Rule::R5, 1)),
+            Call::Reset,
+            Call::Feed(&[0xF8, 0, 0xF0, 0, 0x83], Answer::Reads),
+            Call::Feed(&[], Answer::Reads),
+            Call::Feed(&[0x31], Answer::Broken(2, Rule::R5, 1)),
+            Call::Feed(&[0xF8], Answer::Broken(2, Rule::R5, 1)),
+            Call::Finish(Answer::Broken(2, Rule::R5, 1)),
+            Call::Finish(Answer::Broken(2, Rule::R5, 1)),
+            Call::Reset,
+            Call::Parts(0),
+            Call::Feed(&[0xF8, 0, 0xF8, 0, 0xF8], Answer::Reads),
+            Call::Parts(2),
+            Call::Finish(Answer::Reads),
+            Call::Parts(3),
+            Call::Feed(&[0xFB, 0], Answer::Reads),
+            Call::Finish(Answer::Reads),
+            Call::Parts(3),
+        ],
+    ),
+    // A frame of 1,276 bytes in the last stream is one byte too long.
+    (
+        2,
+        Padding::Drop,
+        &[
+            Call::Feed(&[0xF8, 0, 0xF8], Answer::Reads),
+            Call::Feed(&[7; 1275], Answer::Reads),
+            Call::Feed(&[9], Answer::Broken(1, Rule::R2, 1276)),
+        ],
+    ),
+    // Which stream lasts 10 ms, and not 20 ms as stream 0, is told at the end. Where the last stream doesn't read, this
+    // is told, and not that stream 1 lasts otherwise.
+    (
+        4,
+        Padding::Drop,
+        &[
+            Call::Reset,
+            Call::Feed(&[0xF8, 0, 0xF0, 0, 0xF8, 0, 0xF8], Answer::Reads),
+            Call::Finish(Answer::Unequal(1)),
+            Call::Parts(3),
+            Call::Feed(&[0xF8], Answer::Unequal(1)),
+            Call::Finish(Answer::Unequal(1)),
+            Call::Reset,
+            Call::Feed(&[0xF8, 0, 0xF8, 0, 0xF0, 0, 0xF8], Answer::Reads),
+            Call::Finish(Answer::Unequal(2)),
+            Call::Parts(3),
+            Call::Feed(&[0xF8], Answer::Unequal(2)),
+            Call::Finish(Answer::Unequal(2)),
+            Call::Reset,
+            Call::Feed(&[0xF8, 0, 0xF8, 0, 0xF8, 0, 0xF0], Answer::Reads),
+            Call::Finish(Answer::Unequal(3)),
+            Call::Parts(3),
+            Call::Feed(&[0xF8], Answer::Unequal(3)),
+            Call::Finish(Answer::Unequal(3)),
+            Call::Reset,
+            Call::Feed(&[0xF8, 0, 0xF0, 0, 0xF8, 0, 0xF9, 0xAA], Answer::Reads),
+            Call::Finish(Answer::Broken(3, Rule::R3, 2)),
+        ],
+    ),
+];
+
+fn is_done(feed: &mut MultiFeed, call: Call) -> bool {
+    match call {
+        Call::Reset => {
+            feed.reset();
+            true
+        }
+        Call::Feed(piece, answer) => feed.feed(piece).err() == result_of(0, answer).err(),
+        Call::Finish(answer) => feed.finish().err() == result_of(0, answer).err(),
+        Call::Parts(count) => feed.parts().len() == count,
     }
-    feed.reset();
-    assert_eq!(rt; feed.parts().len(), 0);
-    assert_eq!(rt; feed.feed(&[0xF8, 0, 0xF8, 0, 0xF8]), Ok(()));
-    assert_eq!(rt; feed.parts().len(), 2);
-    assert_eq!(rt; feed.finish(), Ok(()));
-    assert_eq!(rt; feed.parts().len(), 3);
-    assert_eq!(rt; feed.feed(&[0xFB, 0]), Ok(()));
-    assert_eq!(rt; feed.finish(), Ok(()));
-    assert_eq!(rt; feed.parts().len(), 3);
-    Ok(())
 }
 
-// A frame of 1,276 bytes in the last stream is one byte too long.
-#[test]
-fn refuses_a_frame_one_byte_too_long(rt: HostRuntime) -> Result<(), Fail> {
-    let mut feed = MultiFeed::new(rt.alloc(), 2, Padding::Drop)?;
-    let frame = [7u8; 1275];
-    assert_eq!(rt; feed.feed(&[0xF8, 0, 0xF8]), Ok(()));
-    assert_eq!(rt; feed.feed(&frame), Ok(()));
-    assert_eq!(rt; feed.feed(&[9]), Err(broken(1, Rule::R2, 1276)));
-    Ok(())
+fn is_followed(alloc: Global, script: &Script) -> Result<bool, Fail> {
+    if script.0 == 0 {
+        return Ok(false);
+    }
+    let mut feed = MultiFeed::new(alloc, script.0, script.1)?;
+    let mut followed = true;
+    for call in script.2 {
+        followed &= is_done(&mut feed, *call);
+    }
+    Ok(followed)
 }
 
 #[test]
-fn reads_255_streams_in_pieces(rt: HostRuntime) -> Result<(), Fail> {
-    let mut feed = MultiFeed::new(rt.alloc(), 255, Padding::Keep)?;
-    for _ in 0..254 {
-        assert_eq!(rt; feed.feed(&[0xF8, 1]), Ok(()));
-        assert_eq!(rt; feed.feed(&[0xAA]), Ok(()));
+fn calls_have_their_answers(rt: HostRuntime) -> Result<(), Fail> {
+    for script in SCRIPTS {
+        assert!(rt; is_followed(rt.alloc(), script)?, "{script:?}");
     }
-    assert_eq!(rt; feed.feed(&[0xF8, 0xAA]), Ok(()));
-    assert_eq!(rt; feed.parts().len(), 254);
-    assert_eq!(rt; feed.finish(), Ok(()));
-    assert_eq!(rt; feed.parts().len(), 255);
-    let mut size: u64 = 0;
-    for part in feed.parts() {
-        assert_eq!(rt; part.held.view().body(), [0xAA].as_slice());
-        size = size.wrapping_add(u64::from(part.size));
-    }
-    assert_eq!(rt; size, 254 * 3 + 2);
     Ok(())
 }
 
@@ -231,85 +301,105 @@ fn tails(feed: &MultiFeed) -> [(usize, u32); 3] {
     found
 }
 
-// Rows: the choice of padding, the last byte of the padding length, the padding bytes, and how many of them are kept
-// and dropped. The second of three streams has them.
+// The choice of padding, the last byte of the padding length, the padding bytes, and how many of them are kept and
+// dropped. The second of three streams has them. The last has one, of which this is kept and dropped.
+type Padded = (Padding, u8, usize, (usize, u32), (usize, u32));
+
+const PADDINGS: &[Padded] = &[
+    (Padding::Keep, 3, 65_535, (65_535, 0), (1, 0)),
+    (Padding::Keep, 4, 65_536, (0, 65_536), (1, 0)),
+    (Padding::Drop, 3, 65_535, (0, 65_535), (0, 1)),
+    (Padding::Drop, 4, 65_536, (0, 65_536), (0, 1)),
+];
+
+fn padded(alloc: Global, last: u8, count: usize) -> Result<Vec<u8>, Fail> {
+    let mut bytes = Vec::from_slice(alloc, &[0xF8, 1, 0xAA, 0xFB, 0x41])?;
+    bytes.resize(5 + 258, 255)?;
+    bytes.extend_from_slice(&[last, 1, 0xBB])?;
+    for _ in 0..count {
+        bytes.push(7)?;
+    }
+    bytes.extend_from_slice(&[0xFB, 0x41, 1, 0xCC, 9])?;
+    Ok(bytes)
+}
+
+fn is_kept(alloc: Global, row: &Padded) -> Result<bool, Fail> {
+    let bytes = padded(alloc, row.1, row.2)?;
+    let want = whole(alloc, &bytes, 3, row.0);
+    let mut feed = MultiFeed::new(alloc, 3, row.0)?;
+    let mut agrees = true;
+    for step in [1000, 100_000] {
+        agrees &= stepped(&mut feed, &bytes, step) == want;
+        agrees &= tails(&feed) == [(0, 0), row.3, row.4];
+    }
+    Ok(agrees)
+}
+
 #[test]
 fn padding_is_kept_or_dropped_by_the_choice(rt: HostRuntime) -> Result<(), Fail> {
-    let table: [(Padding, u8, usize, (usize, u32)); 4] = [
-        (Padding::Keep, 3, 65_535, (65_535, 0)),
-        (Padding::Keep, 4, 65_536, (0, 65_536)),
-        (Padding::Drop, 3, 65_535, (0, 65_535)),
-        (Padding::Drop, 4, 65_536, (0, 65_536)),
-    ];
-    for (padding, last, count, want) in table {
-        let mut bytes = Vec::new(rt.alloc());
-        bytes.extend_from_slice(&[0xF8, 1, 0xAA, 0xFB, 0x41])?;
-        bytes.resize(5 + 258, 255)?;
-        bytes.extend_from_slice(&[last, 1, 0xBB])?;
-        bytes.resize(bytes.len() + count, 7)?;
-        bytes.extend_from_slice(&[0xFB, 0x41, 1, 0xCC, 9])?;
-        let mut feed = MultiFeed::new(rt.alloc(), 3, padding)?;
-        let small = match padding {
-            Padding::Keep => (1, 0),
-            Padding::Drop => (0, 1),
-        };
-        for step in [1000, 100_000] {
-            assert_eq!(rt;
-                stepped(&mut feed, bytes.as_slice(), step),
-                whole(rt.alloc(), bytes.as_slice(), 3, padding)
-            );
-            assert_eq!(rt; tails(&feed), [(0, 0), want, small]);
-        }
+    for row in PADDINGS {
+        assert!(rt; is_kept(rt.alloc(), row)?, "{row:?}");
     }
     Ok(())
 }
 
-// Which of four streams lasts 10 ms, and not 20 ms as stream 0.
-#[test]
-fn unequal_durations_come_at_the_end(rt: HostRuntime) -> Result<(), Fail> {
-    let mut feed = MultiFeed::new(rt.alloc(), 4, Padding::Drop)?;
-    for other in [1, 2, 3] {
-        let mut bytes = [0xF8, 0, 0xF8, 0, 0xF8, 0, 0xF8];
-        if let Some(toc) = bytes.get_mut(2 * usize::from(other)) {
-            *toc = 0xF0;
-        }
-        let fault = MultiFault::Unequal(other);
-        feed.reset();
-        assert_eq!(rt; feed.feed(&bytes), Ok(()));
-        assert_eq!(rt; feed.finish(), Err(fault));
-        assert_eq!(rt; feed.parts().len(), 3);
-        assert_eq!(rt; feed.feed(&[0xF8]), Err(fault));
-        assert_eq!(rt; feed.finish(), Err(fault));
+// Bytes of two streams, and their canonical form.
+const FORMS: &[(&[u8], &[u8])] = &[
+    (
+        &[0xFB, 0x41, 1, 1, 0xAA, 0, 0xFB, 1, 0xBB],
+        &[0xF8, 1, 0xAA, 0xF8, 0xBB],
+    ),
+    (&[0xF8, 1, 0xAA, 0xF8], &[0xF8, 1, 0xAA, 0xF8]),
+];
+
+fn is_fed(feed: &mut MultiFeed, pieces: &[&[u8]]) -> bool {
+    let mut fed = true;
+    for piece in pieces {
+        fed &= feed.feed(piece) == Ok(());
     }
-    // The last stream doesn't read: this is told, and not that stream 1 lasts otherwise.
+    fed
+}
+
+fn is_written(alloc: Global, feed: &mut MultiFeed, row: &(&[u8], &[u8])) -> Result<bool, Fail> {
     feed.reset();
-    assert_eq!(rt; feed.feed(&[0xF8, 0, 0xF0, 0, 0xF8, 0, 0xF9, 0xAA]), Ok(()));
-    assert_eq!(rt; feed.finish(), Err(broken(3, Rule::R3, 2)));
-    Ok(())
+    let mut fed = true;
+    for byte in row.0 {
+        fed &= is_fed(feed, &[&[*byte]]);
+    }
+    let mut out = Vec::new(alloc);
+    match feed.finish() {
+        Ok(()) => write_multi(feed.parts(), &mut out)?,
+        Err(_) => return Ok(false),
+    }
+    Ok(fed && out.as_slice() == row.1)
 }
 
-// Rows: bytes of two streams, and their canonical form.
+fn are_255_parts(parts: &[Part]) -> bool {
+    let mut size: u64 = 0;
+    let mut same = true;
+    for part in parts {
+        same &= part.held.view().body() == [0xAA].as_slice();
+        size = size.wrapping_add(u64::from(part.size));
+    }
+    same && parts.len() == 255 && size == 254 * 3 + 2
+}
+
+fn reads_255_streams(alloc: Global) -> Result<bool, Fail> {
+    let mut feed = MultiFeed::new(alloc, 255, Padding::Keep)?;
+    let mut fed = true;
+    for _ in 0..254 {
+        fed &= is_fed(&mut feed, &[&[0xF8, 1], &[0xAA]]);
+    }
+    fed &= is_fed(&mut feed, &[&[0xF8, 0xAA]]) && feed.parts().len() == 254;
+    Ok(fed && feed.finish() == Ok(()) && are_255_parts(feed.parts()))
+}
+
 #[test]
 fn what_came_in_pieces_is_written(rt: HostRuntime) -> Result<(), Fail> {
-    let table: [(&[u8], &[u8]); 2] = [
-        (
-            &[0xFB, 0x41, 1, 1, 0xAA, 0, 0xFB, 1, 0xBB],
-            &[0xF8, 1, 0xAA, 0xF8, 0xBB],
-        ),
-        (&[0xF8, 1, 0xAA, 0xF8], &[0xF8, 1, 0xAA, 0xF8]),
-    ];
     let mut feed = MultiFeed::new(rt.alloc(), 2, Padding::Drop)?;
-    for (bytes, want) in table {
-        feed.reset();
-        for byte in bytes {
-            assert_eq!(rt; feed.feed(&[*byte]), Ok(()));
-        }
-        let mut out = Vec::new(rt.alloc());
-        match feed.finish() {
-            Ok(()) => write_multi(feed.parts(), &mut out)?,
-            Err(_) => (),
-        }
-        assert_eq!(rt; out.as_slice(), want);
+    for row in FORMS {
+        assert!(rt; is_written(rt.alloc(), &mut feed, row)?, "{row:?}");
     }
+    assert!(rt; reads_255_streams(rt.alloc())?);
     Ok(())
 }

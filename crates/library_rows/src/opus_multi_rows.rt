@@ -4,123 +4,198 @@ use opus_packet::{Fault, Held, Rule, Tail, decode};
 use std::alloc::Global;
 use std::test::Fail;
 
-pub(crate) fn broken(stream: u8, rule: Rule, place: u64) -> MultiFault {
-    MultiFault::Stream(stream, Fault { rule, place })
+/// What is said of bytes: that all streams read, or the first that doesn't, with its fault, or the first that lasts
+/// other than stream 0.
+#[derive(Clone, Copy, Debug)]
+pub(crate) enum Answer {
+    Reads,
+    Broken(u8, Rule, u64),
+    Unequal(u8),
 }
 
-// Bytes of so many streams.
-pub(crate) static GOOD: [(&[u8], u8); 5] = [
-    (&[0xF8, 1, 0xAA, 0xF8, 0xBB], 2),
-    (&[0xF8, 0xBB], 1),
-    (&[0xFB, 0x41, 1, 1, 0xAA, 0, 0xFB, 1, 0xBB], 2),
-    (&[0xF8, 0, 0xF8, 0, 0xF8, 0xBB], 3),
-    (&[0xF8, 1, 0xAA, 0xF8], 2),
-];
-
-// Bytes, the number of streams, and the first that doesn't read, with its fault.
-pub(crate) static BROKEN: [(&[u8], u8, u8, Rule, u64); 11] = [
-    (&[], 2, 0, Rule::Cut, 0),
-    (&[0xF8], 2, 0, Rule::Cut, 1),
-    (&[0xF8, 1], 2, 0, Rule::Cut, 2),
-    (&[0xF8, 1, 0xAA], 2, 1, Rule::R1, 0),
-    (&[], 1, 0, Rule::R1, 0),
-    (&[0xF8, 1, 0xAA, 0xF9, 0xBB], 2, 1, Rule::R3, 2),
-    (&[0xF8, 1, 0xAA, 0xFB, 0], 2, 1, Rule::R5, 1),
-    (&[0xF8, 1, 0xAA, 0xF8, 1], 3, 1, Rule::Cut, 2),
-    (&[0xF8, 0, 0xF0, 0, 0xF9, 0xBB], 3, 2, Rule::R3, 2),
-    (&[0xF8, 0, 0xF0, 0, 0xFB], 3, 2, Rule::R6, 1),
-    (&[0xF8, 0, 0xF0, 0, 0xFB, 7], 3, 2, Rule::R5, 1),
-];
-
-// Bytes, the number of streams, and the first that lasts other than stream 0.
-pub(crate) static UNEQUAL: [(&[u8], u8, u8); 4] = [
-    (&[0xF8, 1, 0xAA, 0xF0, 0xBB], 2, 1),
-    (&[0xF8, 0, 0xF0, 0, 0xF8, 0xBB], 3, 1),
-    (&[0xF8, 0, 0xF8, 0, 0xF0, 0xBB], 3, 2),
-    (&[0xF8, 0, 0xF0, 0, 0xE0, 0xBB], 3, 1),
-];
-
-// How many streams are read; none where none is asked for.
-fn count_of(alloc: Global, bytes: &[u8], streams: u8) -> Result<usize, MultiFault> {
-    if streams == 0 {
-        return Ok(0);
+/// The same as a result, with the number of streams.
+pub(crate) fn result_of(streams: u8, answer: Answer) -> Result<usize, MultiFault> {
+    match answer {
+        Answer::Reads => Ok(usize::from(streams)),
+        Answer::Broken(stream, rule, place) => {
+            Err(MultiFault::Stream(stream, Fault { rule, place }))
+        }
+        Answer::Unequal(stream) => Err(MultiFault::Unequal(stream)),
     }
-    decode_multi(alloc, bytes, streams).map(|m| m.count())
+}
+
+/// Bytes, the number of streams, and what is said.
+pub(crate) type Row = (&'static [u8], u8, Answer);
+
+pub(crate) const ROWS: &[Row] = &[
+    (&[0xF8, 1, 0xAA, 0xF8, 0xBB], 2, Answer::Reads),
+    (&[0xF8, 0xBB], 1, Answer::Reads),
+    (
+        &[0xFB, 0x41, 1, 1, 0xAA, 0, 0xFB, 1, 0xBB],
+        2,
+        Answer::Reads,
+    ),
+    (&[0xF8, 0, 0xF8, 0, 0xF8, 0xBB], 3, Answer::Reads),
+    (&[0xF8, 1, 0xAA, 0xF8], 2, Answer::Reads),
+    (&[], 2, Answer::Broken(0, Rule::Cut, 0)),
+    (&[0xF8], 2, Answer::Broken(0, Rule::Cut, 1)),
+    (&[0xF8, 1], 2, Answer::Broken(0, Rule::Cut, 2)),
+    (&[0xF8, 1, 0xAA], 2, Answer::Broken(1, Rule::R1, 0)),
+    (&[], 1, Answer::Broken(0, Rule::R1, 0)),
+    (
+        &[0xF8, 1, 0xAA, 0xF9, 0xBB],
+        2,
+        Answer::Broken(1, Rule::R3, 2),
+    ),
+    (&[0xF8, 1, 0xAA, 0xFB, 0], 2, Answer::Broken(1, Rule::R5, 1)),
+    (
+        &[0xF8, 1, 0xAA, 0xF8, 1],
+        3,
+        Answer::Broken(1, Rule::Cut, 2),
+    ),
+    (
+        &[0xF8, 0, 0xF0, 0, 0xF9, 0xBB],
+        3,
+        Answer::Broken(2, Rule::R3, 2),
+    ),
+    (&[0xF8, 0, 0xF0, 0, 0xFB], 3, Answer::Broken(2, Rule::R6, 1)),
+    (
+        &[0xF8, 0, 0xF0, 0, 0xFB, 7],
+        3,
+        Answer::Broken(2, Rule::R5, 1),
+    ),
+    (&[0xF8, 1, 0xAA, 0xF0, 0xBB], 2, Answer::Unequal(1)),
+    (&[0xF8, 0, 0xF0, 0, 0xF8, 0xBB], 3, Answer::Unequal(1)),
+    (&[0xF8, 0, 0xF8, 0, 0xF0, 0xBB], 3, Answer::Unequal(2)),
+    (&[0xF8, 0, 0xF0, 0, 0xE0, 0xBB], 3, Answer::Unequal(1)),
+];
+
+// Whether so many streams are read, or the fault is told.
+fn is_said(alloc: Global, bytes: &[u8], streams: u8, answer: Answer) -> bool {
+    streams != 0
+        && decode_multi(alloc, bytes, streams).map(|multi| multi.count())
+            == result_of(streams, answer)
 }
 
 #[test]
-fn reads_all_streams_or_tells_the_first_fault(rt: HostRuntime) -> Result<(), Fail> {
-    let alloc = rt.alloc();
-    for (bytes, streams) in &GOOD {
-        assert_eq!(rt; count_of(alloc, bytes, *streams), Ok(usize::from(*streams)));
+fn all_streams_are_read_or_the_first_fault_is_told(rt: HostRuntime) {
+    for row in ROWS {
+        assert!(rt; is_said(rt.alloc(), row.0, row.1, row.2), "{row:?}");
     }
-    for (bytes, streams, stream, rule, place) in &BROKEN {
-        let fault = broken(*stream, *rule, *place);
-        assert_eq!(rt; count_of(alloc, bytes, *streams), Err(fault));
+}
+
+// Of 254 empty self-delimited packets and one undelimited packet of one byte: places whose first byte says 10 ms, how
+// many bytes there are, and what is said.
+const MANY: &[(&[usize], usize, Answer)] = &[
+    (&[], 509, Answer::Reads),
+    (&[508], 509, Answer::Unequal(254)),
+    (&[508, 254], 509, Answer::Unequal(127)),
+    (&[508, 254], 508, Answer::Broken(254, Rule::R1, 0)),
+];
+
+fn of_255_streams(alloc: Global, shorter: &[usize]) -> Result<Vec<u8>, Fail> {
+    let mut bytes = Vec::new(alloc);
+    for _ in 0..254 {
+        bytes.extend_from_slice(&[0xF8, 0])?;
     }
-    for (bytes, streams, stream) in &UNEQUAL {
-        let fault = MultiFault::Unequal(*stream);
-        assert_eq!(rt; count_of(alloc, bytes, *streams), Err(fault));
+    bytes.push(0xF8)?;
+    for place in shorter {
+        if let Some(toc) = bytes.get_mut(*place) {
+            *toc = 0xF0;
+        }
+    }
+    Ok(bytes)
+}
+
+fn is_said_of_255(alloc: Global, row: &(&[usize], usize, Answer)) -> Result<bool, Fail> {
+    let bytes = of_255_streams(alloc, row.0)?;
+    match bytes.get(..row.1) {
+        Some(bytes) => Ok(is_said(alloc, bytes, 255, row.2)),
+        None => Ok(false),
+    }
+}
+
+#[test]
+fn each_of_255_streams_is_read(rt: HostRuntime) -> Result<(), Fail> {
+    for row in MANY {
+        assert!(rt; is_said_of_255(rt.alloc(), row)?, "{row:?}");
     }
     Ok(())
 }
 
-// Whether stream k has this size, these frames in one, and these padding bytes.
-fn has(alloc: Global, bytes: &[u8], k: usize, size: u32, body: &[u8], tail: &[u8]) -> bool {
-    match decode_multi(alloc, bytes, 2) {
-        Ok(multi) if k < multi.count() => {
-            let packet = multi.stream(k);
-            let kept = matches!(packet.tail(), Tail::Bytes(kept) if kept == tail);
-            kept && packet.size() == size && packet.body() == body
+// Bytes of two streams, a stream's number, its size, its frames in one, and its padding bytes.
+const STREAMS: &[(&[u8], usize, u32, &[u8], &[u8])] = &[
+    (
+        &[0xFB, 0x41, 1, 1, 0xAA, 0, 0xFB, 1, 0xBB],
+        0,
+        6,
+        &[0xAA],
+        &[0],
+    ),
+    (
+        &[0xFB, 0x41, 1, 1, 0xAA, 0, 0xFB, 1, 0xBB],
+        1,
+        3,
+        &[0xBB],
+        &[],
+    ),
+    (&[0xF8, 1, 0xAA, 0xF8], 0, 3, &[0xAA], &[]),
+    (&[0xF8, 1, 0xAA, 0xF8], 1, 1, &[], &[]),
+];
+
+fn is_stream(alloc: Global, row: &(&[u8], usize, u32, &[u8], &[u8])) -> bool {
+    match decode_multi(alloc, row.0, 2) {
+        Ok(multi) if row.1 < multi.count() => {
+            let packet = multi.stream(row.1);
+            let kept = matches!(packet.tail(), Tail::Bytes(kept) if kept == row.4);
+            kept && packet.size() == row.2 && packet.body() == row.3
         }
         _ => false,
     }
 }
 
 #[test]
-fn each_stream_is_its_packet(rt: HostRuntime) -> Result<(), Fail> {
-    let padded: &[u8] = &[0xFB, 0x41, 1, 1, 0xAA, 0, 0xFB, 1, 0xBB];
-    assert!(rt; has(rt.alloc(), padded, 0, 6, &[0xAA], &[0]));
-    assert!(rt; has(rt.alloc(), padded, 1, 3, &[0xBB], &[]));
-    let plain: &[u8] = &[0xF8, 1, 0xAA, 0xF8];
-    assert!(rt; has(rt.alloc(), plain, 0, 3, &[0xAA], &[]));
-    assert!(rt; has(rt.alloc(), plain, 1, 1, &[], &[]));
-    Ok(())
+fn each_stream_is_its_packet(rt: HostRuntime) {
+    for row in STREAMS {
+        assert!(rt; is_stream(rt.alloc(), row), "{row:?}");
+    }
 }
 
-// 254 empty self-delimited packets and one undelimited packet of one byte.
-#[test]
-fn reads_255_streams(rt: HostRuntime) -> Result<(), Fail> {
-    let alloc = rt.alloc();
-    let mut bytes = Vec::new(alloc);
-    for _ in 0..254 {
-        bytes.extend_from_slice(&[0xF8, 0])?;
+// Packets, and their multistream packet behind a byte that stands there; or their fault, and that byte alone.
+type Joined = (
+    &'static [&'static [u8]],
+    Result<(), JoinFault>,
+    &'static [u8],
+);
+
+const JOINS: &[Joined] = &[
+    (&[], Err(JoinFault::NoParts), &[7]),
+    (&[&[0xF8, 0xAA]], Ok(()), &[7, 0xF8, 0xAA]),
+    (
+        &[&[0xF8, 0xAA], &[0xF8, 0xBB]],
+        Ok(()),
+        &[7, 0xF8, 1, 0xAA, 0xF8, 0xBB],
+    ),
+    (&[&[0xF8], &[0xF0]], Err(JoinFault::Unequal(1)), &[7]),
+    (
+        &[&[0xF8], &[0xFB, 1], &[0xF0], &[0xF8]],
+        Err(JoinFault::Unequal(2)),
+        &[7],
+    ),
+    (
+        &[&[0xF8], &[0xF8], &[0xF1]],
+        Ok(()),
+        &[7, 0xF8, 0, 0xF8, 0, 0xF1],
+    ),
+];
+
+fn is_joined(alloc: Global, row: &Joined) -> Result<bool, Fail> {
+    let mut parts = Vec::new(alloc);
+    for packet in row.0 {
+        parts.push(Held::copy(alloc, &decode(packet)?)?)?;
     }
-    bytes.push(0xF8)?;
-    assert_eq!(rt;
-        decode_multi(alloc, &bytes, 255).map(|m| m.count()),
-        Ok(255)
-    );
-    // The last stream alone, and one in the middle and behind it, last 10 ms.
-    if let Some(toc) = bytes.get_mut(508) {
-        *toc = 0xF0;
-    }
-    assert_eq!(rt;
-        decode_multi(alloc, &bytes, 255).map(|m| m.count()),
-        Err(MultiFault::Unequal(254))
-    );
-    if let Some(toc) = bytes.get_mut(254) {
-        *toc = 0xF0;
-    }
-    assert_eq!(rt;
-        decode_multi(alloc, &bytes, 255).map(|m| m.count()),
-        Err(MultiFault::Unequal(127))
-    );
-    // One byte is missing.
-    let short = bytes.get(..508).unwrap_or(&[]);
-    let fault = Err(broken(254, Rule::R1, 0));
-    assert_eq!(rt; decode_multi(alloc, short, 255).map(|m| m.count()), fault);
-    Ok(())
+    let mut out = Vec::from_slice(alloc, &[7])?;
+    Ok(join(&parts, &mut out) == row.1 && out.as_slice() == row.2)
 }
 
 // The canonical and the kept form of the first stream of these bytes alone.
@@ -139,47 +214,19 @@ fn rewritten(alloc: Global, bytes: &[u8]) -> Result<(Vec<u8>, Vec<u8>), Fail> {
     Ok((canonical, kept))
 }
 
-#[test]
-fn writes_what_was_read(rt: HostRuntime) -> Result<(), Fail> {
-    let (canonical, kept) = rewritten(rt.alloc(), &[0xFB, 0x42, 2, 0xCC, 0xDD, 7, 9])?;
-    assert_eq!(rt; canonical.as_slice(), [0xF9, 0xCC, 0xDD].as_slice());
-    assert_eq!(rt;
-        kept.as_slice(),
-        [0xFB, 0x42, 2, 0xCC, 0xDD, 7, 9].as_slice()
-    );
-    Ok(())
+fn writes_what_was_read(alloc: Global) -> Result<bool, Fail> {
+    let (canonical, kept) = rewritten(alloc, &[0xFB, 0x42, 2, 0xCC, 0xDD, 7, 9])?;
+    Ok(
+        canonical.as_slice() == [0xF9, 0xCC, 0xDD].as_slice()
+            && kept.as_slice() == [0xFB, 0x42, 2, 0xCC, 0xDD, 7, 9].as_slice(),
+    )
 }
 
-// Rows: packets, and their multistream packet.
 #[test]
-fn joins_packets_of_one_duration(rt: HostRuntime) -> Result<(), Fail> {
-    let alloc = rt.alloc();
-    let table: [(&[&[u8]], Result<&[u8], JoinFault>); 6] = [
-        (&[], Err(JoinFault::NoParts)),
-        (&[&[0xF8, 0xAA]], Ok(&[0xF8, 0xAA])),
-        (
-            &[&[0xF8, 0xAA], &[0xF8, 0xBB]],
-            Ok(&[0xF8, 1, 0xAA, 0xF8, 0xBB]),
-        ),
-        (&[&[0xF8], &[0xF0]], Err(JoinFault::Unequal(1))),
-        (
-            &[&[0xF8], &[0xFB, 1], &[0xF0], &[0xF8]],
-            Err(JoinFault::Unequal(2)),
-        ),
-        (&[&[0xF8], &[0xF8], &[0xF1]], Ok(&[0xF8, 0, 0xF8, 0, 0xF1])),
-    ];
-    for (packets, want) in table {
-        let mut parts = Vec::new(alloc);
-        for packet in packets {
-            parts.push(Held::copy(alloc, &decode(packet)?)?)?;
-        }
-        let mut out = Vec::from_slice(alloc, &[7])?;
-        let joined = join(&parts, &mut out);
-        assert_eq!(rt; out[0], 7);
-        match want {
-            Ok(bytes) => assert_eq!(rt; (joined, &out[1..]), (Ok(()), bytes)),
-            Err(fault) => assert_eq!(rt; (joined, out.len()), (Err(fault), 1)),
-        }
+fn packets_are_joined_and_written_again(rt: HostRuntime) -> Result<(), Fail> {
+    for row in JOINS {
+        assert!(rt; is_joined(rt.alloc(), row)?, "{row:?}");
     }
+    assert!(rt; writes_what_was_read(rt.alloc())?);
     Ok(())
 }

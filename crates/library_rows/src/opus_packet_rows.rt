@@ -149,7 +149,7 @@ fn padding_bytes_are_kept_up_to_65535(rt: HostRuntime) -> Result<(), Fail> {
     Ok(())
 }
 
-// A packet of 48 frames: frame i has 26 * i bytes, i and those behind it; so the lengths from the tenth on take two bytes.
+// A packet of 48 frames: frame i has 26 * i bytes, i and those behind it. Lengths from the tenth on take two bytes.
 fn of_48_frames(alloc: Global) -> Result<Vec<u8>, AllocError> {
     let mut bytes = Vec::from_slice(alloc, b"\x83\xb0")?;
     for i in 0..47u16 {

@@ -1,9 +1,10 @@
 //! Texts and what they write.
-use std::test::Fail;
 use text_numbers::read_number;
 
 // A text, the bounds, and the number.
-static ROWS: [(&[u8], u32, u32, Option<u32>); 14] = [
+type Row = (&'static [u8], u32, u32, Option<u32>);
+
+const ROWS: &[Row] = &[
     (b"0", 0, 127, Some(0)),
     (b"127", 0, 127, Some(127)),
     (b"128", 0, 127, None),
@@ -21,9 +22,8 @@ static ROWS: [(&[u8], u32, u32, Option<u32>); 14] = [
 ];
 
 #[test]
-fn reads_digits_alone_within_the_bounds(rt: HostRuntime) -> Result<(), Fail> {
-    for (text, least, most, number) in ROWS {
-        assert_eq!(rt; read_number(text, least, most), number);
+fn reads_digits_alone_within_the_bounds(rt: HostRuntime) {
+    for row in ROWS {
+        assert!(rt; read_number(row.0, row.1, row.2) == row.3, "{row:?}");
     }
-    Ok(())
 }

@@ -1,6 +1,6 @@
 //! Generated arrivals, compared with a plain program over an ordered map.
 use super::{Told, all_told};
-use rtp_ends::{Arrival, Receiver};
+use rtp_ends::{Arrival, Event, Receiver};
 use std::alloc::Global;
 use std::collections::BTreeMap;
 use std::test::Fail;
@@ -25,17 +25,15 @@ impl Plain {
         least.wrapping_add(u32::from(seq).wrapping_sub(least) % 65_536)
     }
 
-    // Takes an arrival. The answer is its number, and whether it is the first of it.
-    fn arrive(&mut self, seq: u16, stamp: u32) -> Result<(u32, bool), Fail> {
+    // Takes an arrival, and gives the answer to it.
+    fn arrive(&mut self, seq: u16, stamp: u32) -> Result<Arrival, Fail> {
         let number = self.number(seq);
-        let first = !self.stamps.contains_key(&number);
-        if first {
-            self.stamps.insert(number, stamp)?;
+        if self.stamps.contains_key(&number) {
+            return Ok(Arrival::Repeat(number_of(number)));
         }
-        if self.greatest < number {
-            self.greatest = number;
-        }
-        Ok((number, first))
+        self.stamps.insert(number, stamp)?;
+        self.greatest = self.greatest.max(number);
+        Ok(Arrival::New(number_of(number)))
     }
 
     // The report of the numbers that are at least so far below the greatest one.
@@ -75,38 +73,67 @@ fn next_seq(state: u32, last: u16) -> u16 {
     }
 }
 
-#[test]
-fn the_ring_tells_what_a_map_tells(rt: HostRuntime) -> Result<(), Fail> {
-    for (seed, count) in [(1, 3000), (2, 500), (3, 40), (4, 40), (5, 40)] {
-        let mut receiver = Receiver::new(rt.alloc())?;
-        let mut plain = Plain {
-            stamps: BTreeMap::new(rt.alloc()),
+/// The receiver with its events, beside the plain program.
+#[derive(Drop)]
+struct Pair {
+    receiver: Receiver,
+    out: Vec<Event>,
+    plain: Plain,
+}
+
+impl Pair {
+    fn new(alloc: Global) -> Result<Pair, Fail> {
+        let plain = Plain {
+            stamps: BTreeMap::new(alloc),
             greatest: 0,
         };
-        let mut out = Vec::new(rt.alloc());
-        let (mut state, mut seq) = (seed, 7);
-        for stamp in 0..count {
-            state = u32::wrapping_add(u32::wrapping_mul(state, 1_664_525), 1_013_904_223);
-            seq = next_seq(state >> 4, seq);
-            let (number, first) = plain.arrive(seq, stamp)?;
-            let number = number_of(number);
-            let answer = if first {
-                Arrival::New(number)
-            } else {
-                Arrival::Repeat(number)
-            };
-            if receiver.arrivals() < 5000 {
-                let arrived = receiver.arrive(seq, stamp, &[(stamp % 256) as u8], &mut out)?;
-                assert_eq!(rt; arrived, answer);
-            }
-            if stamp % 16 == 0 || stamp < 100 {
-                let certain = plain.report(rt.alloc(), 32_768)?;
-                assert_eq!(rt; all_told(rt.alloc(), &out)?, certain);
-            }
+        Ok(Pair {
+            receiver: Receiver::new(alloc)?,
+            out: Vec::new(alloc),
+            plain,
+        })
+    }
+
+    // Whether both answer the same to an arrival.
+    fn answers_alike(&mut self, seq: u16, stamp: u32) -> Result<bool, Fail> {
+        if self.receiver.arrivals() >= 5000 {
+            return Ok(false);
         }
-        receiver.close(&mut out)?;
-        let all = plain.report(rt.alloc(), 0)?;
-        assert_eq!(rt; all_told(rt.alloc(), &out)?, all);
+        let payload = [(stamp % 256) as u8];
+        let answer = self.receiver.arrive(seq, stamp, &payload, &mut self.out)?;
+        Ok(answer == self.plain.arrive(seq, stamp)?)
+    }
+
+    // Whether both tell the same of the numbers that are at least so far below the greatest one.
+    fn tells_alike(&self, alloc: Global, below: u32) -> Result<bool, Fail> {
+        let report = self.plain.report(alloc, below)?;
+        Ok(all_told(alloc, &self.out)? == report)
+    }
+}
+
+// The seed of the arrivals, and how many there are.
+const ROWS: &[(u32, u32)] = &[(1, 3000), (2, 500), (3, 40), (4, 40), (5, 40)];
+
+fn is_told_alike(alloc: Global, row: &(u32, u32)) -> Result<bool, Fail> {
+    let mut pair = Pair::new(alloc)?;
+    let mut alike = true;
+    let (mut state, mut seq) = (row.0, 7);
+    for stamp in 0..row.1 {
+        state = state.wrapping_mul(1_664_525).wrapping_add(1_013_904_223);
+        seq = next_seq(state >> 4, seq);
+        alike &= pair.answers_alike(seq, stamp)?;
+        if stamp % 16 == 0 || stamp < 100 {
+            alike &= pair.tells_alike(alloc, 32_768)?;
+        }
+    }
+    pair.receiver.close(&mut pair.out)?;
+    Ok(alike && pair.tells_alike(alloc, 0)?)
+}
+
+#[test]
+fn the_ring_tells_what_a_map_tells(rt: HostRuntime) -> Result<(), Fail> {
+    for row in ROWS {
+        assert!(rt; is_told_alike(rt.alloc(), row)?, "{row:?}");
     }
     Ok(())
 }
