@@ -3,13 +3,14 @@ ghost use Rattle.std.specs.Prelude.{◌≤◌};
 
 use crate::run::{max_input, run};
 use crate::status::Status;
-use opus_io::{MemorySink, MemorySource};
+use opus_io::{MemorySink, MemorySource, Source};
 use std::alloc::Global;
 use std::test::Fail;
 
 mod capture;
 mod check;
 mod cuts;
+mod frames;
 mod head;
 mod lines;
 mod long;
@@ -24,11 +25,12 @@ mod streams;
 mod trial;
 mod words;
 
-/// An input, and the output of a run that ends well.
-pub(crate) type Good = (&'static [u8], &'static [u8]);
+/// A run: its words with a blank between them, its input, its output, and its note without the program's name; none
+/// where the run ends well.
+pub(crate) type Row<'a> = (&'a str, &'a [u8], &'a [u8], &'a str);
 
-/// An input that is refused, the output, and what the note says of it.
-pub(crate) type Bad = (&'static [u8], &'static [u8], &'static str);
+/// The words of a run that reads nothing, and its whole output.
+pub(crate) type Made = (&'static str, &'static [u8]);
 
 /// What surrounds a run: the limit, the most bytes of a read, and the reads that fail; the most bytes of a write, and
 /// the writes that fail.
@@ -52,8 +54,8 @@ pub(crate) fn unfailing(step: usize) -> Around<'static> {
     }
 }
 
-/// The note's line.
-pub(crate) fn line_of(alloc: Global, text: &str) -> Result<Vec<u8>, Fail> {
+// The note's line.
+fn line_of(alloc: Global, text: &str) -> Result<Vec<u8>, Fail> {
     if text.is_empty() {
         return Ok(Vec::new(alloc));
     }
@@ -64,85 +66,103 @@ pub(crate) fn line_of(alloc: Global, text: &str) -> Result<Vec<u8>, Fail> {
 }
 
 /// The words as the program is handed them.
-pub(crate) fn words_of(alloc: Global, words: &[&'static str]) -> Result<Vec<String>, Fail> {
-    let mut all = Vec::new(alloc);
-    for word in words {
-        all.push(String::from_str(alloc, word)?)?;
+pub(crate) fn words_of(alloc: Global, line: &str) -> Result<Vec<String>, Fail> {
+    let mut words = Vec::new(alloc);
+    for word in line.split(' ') {
+        words.push(String::from_str(alloc, word)?)?;
     }
-    Ok(all)
+    Ok(words)
 }
 
-/// The status of a run over `input`, where it wrote `output` and this note.
-pub(crate) fn status_of(
-    alloc: Global,
-    words: &[&'static str],
-    input: &[u8],
-    around: &Around<'_>,
-    output: &[u8],
-    note: &str,
-) -> Result<Option<Status>, Fail> {
-    if around.limit == 0 || around.limit > max_input() || around.step == 0 || around.room == 0 {
-        return Ok(None);
+// The status that goes with a note.
+fn status_with(note: &str) -> Status {
+    match note {
+        "" => Status::Ok,
+        "read fault" => Status::ReadFault,
+        "write fault" => Status::WriteFault,
+        "input limit" => Status::InputLimit,
+        _ if note.starts_with("usage: ") => Status::Usage,
+        _ => Status::Refused,
     }
-    let words = words_of(alloc, words)?;
-    let line = line_of(alloc, note)?;
-    let mut source = MemorySource::new(alloc, input, around.step, around.reads).map_err(
-        |_| "memory",
-    )?;
+}
+
+/// Whether a run over `source` that is surrounded so ends as its row says.
+pub(crate) fn is_met_over<S: Source>(
+    alloc: Global,
+    source: &mut S,
+    around: &Around<'_>,
+    row: &Row<'_>,
+) -> Result<bool, Fail> {
+    if around.limit == 0 || around.limit > max_input() || around.room == 0 {
+        return Ok(false);
+    }
+    let words = words_of(alloc, row.0)?;
+    let line = line_of(alloc, row.3)?;
     let mut out = MemorySink::new(alloc, around.room, around.writes).map_err(|_| "memory")?;
     let mut told = MemorySink::new(alloc, 4096, &[]).map_err(|_| "memory")?;
-    let status = run(
-        alloc,
-        words.as_slice(),
-        around.limit,
-        &mut source,
-        &mut out,
-        &mut told,
-    );
-    let met = out.contents() == output && told.contents() == line.as_slice();
-    Ok(if met { Some(status) } else { None })
+    let words = words.as_slice();
+    let status = run(alloc, words, around.limit, source, &mut out, &mut told);
+    let written = out.contents() == row.2 && told.contents() == line.as_slice();
+    Ok(written && status == status_with(row.3))
 }
 
-/// Whether a run ends so with reads of one byte, of three and of 4,096.
-pub(crate) fn is_met(
-    alloc: Global,
-    words: &[&'static str],
-    input: &[u8],
-    status: Status,
-    output: &[u8],
-    note: &str,
-) -> Result<bool, Fail> {
+/// Whether a run over its input that is surrounded so ends as its row says.
+pub(crate) fn is_met_in(alloc: Global, around: &Around<'_>, row: &Row<'_>) -> Result<bool, Fail> {
+    if around.step == 0 {
+        return Ok(false);
+    }
+    let mut source = MemorySource::new(alloc, row.1, around.step, around.reads).map_err(
+        |_| "memory",
+    )?;
+    is_met_over(alloc, &mut source, around, row)
+}
+
+/// Whether a run ends as its row says with reads of one byte, of three and of 4,096.
+pub(crate) fn is_met(alloc: Global, row: &Row<'_>) -> Result<bool, Fail> {
     for step in [1, 3, 4096] {
-        let ended = status_of(alloc, words, input, &unfailing(step), output, note)?;
-        if ended != Some(status) {
+        if !is_met_in(alloc, &unfailing(step), row)? {
             return Ok(false);
         }
     }
     Ok(true)
 }
 
-/// Whether each row's run ends well with its output.
-pub(crate) fn all_done(alloc: Global, words: &[&'static str], rows: &[Good]) -> Result<bool, Fail> {
-    for (input, output) in rows {
-        if !is_met(alloc, words, input, Status::Ok, output, "")? {
-            return Ok(false);
-        }
-    }
-    Ok(true)
+// Whether the write behind so many bytes, which fails, leaves these bytes.
+fn is_write_met(alloc: Global, row: &Row<'_>, written: usize) -> Result<bool, Fail> {
+    let Some(front) = row.2.get(..written) else {
+        return Ok(false);
+    };
+    let around = Around {
+        room: 1,
+        writes: &[(written as u64).saturating_add(1)],
+        ..unfailing(1)
+    };
+    is_met_in(alloc, &around, &(row.0, row.1, front, "write fault"))
 }
 
-/// Whether each row's run is refused with its output and note.
-pub(crate) fn all_refused(
+/// Whether each write that fails leaves the bytes before it.
+pub(crate) fn all_writes_met(
     alloc: Global,
-    words: &[&'static str],
-    rows: &[Bad],
+    words: &str,
+    input: &[u8],
+    output: &[u8],
 ) -> Result<bool, Fail> {
-    for (input, output, text) in rows {
-        let mut note = String::from_str(alloc, "refused: ")?;
-        note.push_str(text)?;
-        if !is_met(alloc, words, input, Status::Refused, output, note.as_str())? {
+    for written in 0..output.len() {
+        if !is_write_met(alloc, &(words, input, output, ""), written)? {
             return Ok(false);
         }
     }
     Ok(true)
+}
+
+/// Whether the output is made, and each write that fails leaves the bytes before it. No byte is read: the first read
+/// would fail, and the input is longer than the limit.
+pub(crate) fn is_made(alloc: Global, row: &Made) -> Result<bool, Fail> {
+    let around = Around {
+        limit: 1,
+        reads: &[1],
+        ..unfailing(1)
+    };
+    let unread = is_met_in(alloc, &around, &(row.0, b"input", row.1, ""))?;
+    Ok(unread && all_writes_met(alloc, row.0, b"", row.1)?)
 }

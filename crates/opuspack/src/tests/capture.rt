@@ -16,6 +16,8 @@ static TURNS: [(&[u8], &[u8], u32); 5] = [
     (b"\x19\x01\x02", b"\x19\x01\x02", 5760),
 ];
 
+const SEND: &str = "send --pt=111 --seq=65300 --stamp=4294900000 --ssrc=7";
+
 // The first numbers: both wrap.
 const SEQ: u64 = 65_300;
 
@@ -35,14 +37,7 @@ fn store(alloc: Global) -> Result<Vec<u8>, Fail> {
 
 // What send writes for a store.
 fn sent(alloc: Global, store: &[u8], step: usize) -> Result<MemorySink, Fail> {
-    let line = [
-        "send",
-        "--pt=111",
-        "--seq=65300",
-        "--stamp=4294900000",
-        "--ssrc=7",
-    ];
-    let words = words_of(alloc, &line)?;
+    let words = words_of(alloc, SEND)?;
     let mut source = MemorySource::new(alloc, store, step.max(1), &[]).map_err(|_| "memory")?;
     let mut out = MemorySink::new(alloc, 4096, &[]).map_err(|_| "memory")?;
     let mut note = MemorySink::new(alloc, 64, &[]).map_err(|_| "memory")?;
@@ -118,13 +113,20 @@ fn are_all_sent(records: &[u8]) -> Option<bool> {
     Some(rest.is_empty())
 }
 
+// Whether all of the store is read from what send writes with reads of so many bytes.
+fn is_read(alloc: Global, store: &[u8], step: usize) -> Result<bool, Fail> {
+    let out = sent(alloc, store, step)?;
+    match parted(out.contents(), 39) {
+        Some((_, records)) => Ok(are_all_sent(records) == Some(true)),
+        None => Ok(false),
+    }
+}
+
 #[test]
 fn each_packet_of_a_capture_is_read(rt: HostRuntime) -> Result<(), Fail> {
     let store = store(rt.alloc())?;
     for step in [1, 3, 4096] {
-        let out = sent(rt.alloc(), &store, step)?;
-        let (_, records) = parted(out.contents(), 39).ok_or("a head")?;
-        assert_eq!(rt; are_all_sent(records), Some(true));
+        assert!(rt; is_read(rt.alloc(), &store, step)?, "{step}");
     }
     Ok(())
 }

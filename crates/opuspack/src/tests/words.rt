@@ -1,12 +1,43 @@
-//! Words that stand for no job.
-use super::{status_of, unfailing};
+//! Words that stand for no job, and words as they come from a process.
+use super::{Row, is_met};
 use crate::arguments::words_of;
 use crate::finish::Finish;
-use crate::status::Status;
 use opus_words::UsageKind;
+use std::alloc::Global;
 use std::env::FillError;
 use std::rt::Env;
 use std::test::Fail;
+
+const ROWS: &[Row<'static>] = &[
+    ("norm --loud yes", b"", b"", "usage: words"),
+    ("sing", b"", b"", "usage: job"),
+    ("norm --size 4", b"", b"", "usage: option --size"),
+    ("split --frames 0", b"", b"", "usage: value --frames"),
+    ("pad", b"", b"", "usage: missing --size"),
+    (
+        "extract --streams 2 --stream 2",
+        b"",
+        b"",
+        "usage: value --stream",
+    ),
+    (
+        "norm --form self --streams 2",
+        b"",
+        b"",
+        "usage: value --streams",
+    ),
+    ("--help", b"", b"", "usage: words"),
+    ("norm --padding some", b"", b"", "usage: value --padding"),
+    ("merge --padding keep", b"", b"", "usage: option --padding"),
+];
+
+#[test]
+fn tells_what_is_wrong_with_the_words(rt: HostRuntime) -> Result<(), Fail> {
+    for row in ROWS {
+        assert!(rt; is_met(rt.alloc(), row)?, "{row:?}");
+    }
+    Ok(())
+}
 
 // The arguments of a process, its name first.
 #[derive(Drop)]
@@ -29,48 +60,29 @@ impl Env for Arguments {
     }
 }
 
-// The words, and what the note says of them.
-static WORDS: [(&[&str], &str); 10] = [
-    (&["norm", "--loud", "yes"], "usage: words"),
-    (&["sing"], "usage: job"),
-    (&["norm", "--size", "4"], "usage: option --size"),
-    (&["split", "--frames", "0"], "usage: value --frames"),
-    (&["pad"], "usage: missing --size"),
+// The arguments of a process, and its words, where they are taken.
+type Taken = (&'static [&'static [u8]], Option<&'static str>);
+
+const TAKEN: &[Taken] = &[
     (
-        &["extract", "--streams", "2", "--stream", "2"],
-        "usage: value --stream",
+        &[b"opuspack", b"norm", b"--form=demo"],
+        Some("norm --form=demo"),
     ),
-    (
-        &["norm", "--form", "self", "--streams", "2"],
-        "usage: value --streams",
-    ),
-    (&["--help"], "usage: words"),
-    (&["norm", "--padding", "some"], "usage: value --padding"),
-    (&["merge", "--padding", "keep"], "usage: option --padding"),
+    (&[b"opuspack", b"\xff"], None),
 ];
 
-#[test]
-fn tells_what_is_wrong_with_the_words(rt: HostRuntime) -> Result<(), Fail> {
-    for (words, note) in &WORDS {
-        let ended = status_of(rt.alloc(), words, b"", &unfailing(1), b"", note)?;
-        assert_eq!(rt; ended, Some(Status::Usage));
+fn are_taken(alloc: Global, row: &Taken) -> Result<bool, Fail> {
+    match (words_of(&(Arguments(row.0), alloc)), row.1) {
+        (Ok(words), Some(line)) => Ok(words == super::words_of(alloc, line)?),
+        (Err(finish), None) => Ok(matches!(finish, Finish::Usage(UsageKind::Words))),
+        _ => Ok(false),
     }
-    Ok(())
 }
 
 #[test]
 fn takes_the_words_behind_the_programs_name(rt: HostRuntime) -> Result<(), Fail> {
-    let Ok(words) = words_of(&(
-        Arguments(&[b"opuspack", b"norm", b"--form=demo"]),
-        rt.alloc(),
-    )) else {
-        return Err("words are taken".into());
-    };
-    assert_eq!(rt;
-        words,
-        super::words_of(rt.alloc(), &["norm", "--form=demo"])?
-    );
-    let refused = words_of(&(Arguments(&[b"opuspack", b"\xff"]), rt.alloc()));
-    assert!(rt; matches!(refused, Err(Finish::Usage(UsageKind::Words))));
+    for row in TAKEN {
+        assert!(rt; are_taken(rt.alloc(), row)?, "{row:?}");
+    }
     Ok(())
 }
