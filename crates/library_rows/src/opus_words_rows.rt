@@ -1,6 +1,6 @@
 //! Words and what they stand for.
 use opus_feed::Padding;
-use opus_words::{Form, Job, JobKind, Opt, WordsFault, job_of};
+use opus_words::{Form, Job, JobKind, WordsFault, job_of};
 use std::alloc::{AllocError, Global};
 use std::test::Fail;
 
@@ -30,37 +30,6 @@ const NORM: Job = Job {
     padding: Some(Padding::Drop),
 };
 
-#[test]
-fn takes_norm_with_its_options_in_any_order(rt: HostRuntime) -> Result<(), Fail> {
-    let lines = [
-        "norm",
-        "norm --form raw",
-        "norm --form=raw",
-        "norm --padding drop",
-        "--form raw norm",
-        "--form=raw norm --streams 1",
-        "--streams 1 --form raw norm",
-    ];
-    for line in lines {
-        assert_eq!(rt; answer(rt.alloc(), line)?, Ok(NORM), "{line}");
-    }
-    let mut framed = NORM;
-    framed.form = Some(Form::SelfDelimited);
-    assert_eq!(rt;
-        answer(rt.alloc(), "norm --form self --streams 1")?,
-        Ok(framed)
-    );
-    let mut kept = NORM;
-    kept.padding = Some(Padding::Keep);
-    assert_eq!(rt; answer(rt.alloc(), "--padding=keep norm")?, Ok(kept));
-    let mut checked = NORM;
-    checked.kind = JobKind::Check;
-    checked.padding = None;
-    checked.form = Some(Form::Demo);
-    assert_eq!(rt; answer(rt.alloc(), "check --form=demo")?, Ok(checked));
-    Ok(())
-}
-
 const SEND: Job = Job {
     kind: JobKind::Send,
     form: None,
@@ -73,91 +42,169 @@ const SEND: Job = Job {
     ..NORM
 };
 
-#[test]
-fn takes_send_with_defaults_and_greatest_numbers(rt: HostRuntime) -> Result<(), Fail> {
-    assert_eq!(rt; answer(rt.alloc(), "send")?, Ok(SEND));
-    let mut most = SEND;
-    most.pt = Some(127);
-    most.seq = Some(65_535);
-    most.stamp = Some(4_294_967_295);
-    most.ssrc = Some(4_294_967_295);
-    let line = "--pt 127 --seq 65535 send --stamp=4294967295 --ssrc 4294967295";
-    assert_eq!(rt; answer(rt.alloc(), line)?, Ok(most));
-    Ok(())
+// A job none of whose options has a default.
+const BARE: Job = Job {
+    pt: None,
+    seq: None,
+    stamp: None,
+    ssrc: None,
+    ..SEND
+};
+
+const SPLIT: Job = Job {
+    kind: JobKind::Split,
+    form: Some(Form::Demo),
+    streams: None,
+    frames: Some(1),
+    padding: None,
+    ..NORM
+};
+
+/// Each row has words, and then the job that they stand for.
+const JOBS: &[(&str, Job)] = &[
+    ("norm", NORM),
+    ("norm --form raw", NORM),
+    ("norm --form=raw", NORM),
+    ("norm --padding drop", NORM),
+    ("--form raw norm", NORM),
+    ("--form=raw norm --streams 1", NORM),
+    ("--streams 1 --form raw norm", NORM),
+    (
+        "norm --form self --streams 1",
+        Job {
+            form: Some(Form::SelfDelimited),
+            ..NORM
+        },
+    ),
+    (
+        "--padding=keep norm",
+        Job {
+            padding: Some(Padding::Keep),
+            ..NORM
+        },
+    ),
+    (
+        "norm --streams 2",
+        Job {
+            streams: Some(2),
+            ..NORM
+        },
+    ),
+    (
+        "check --form=demo",
+        Job {
+            kind: JobKind::Check,
+            padding: None,
+            form: Some(Form::Demo),
+            ..NORM
+        },
+    ),
+    (
+        "show --form self",
+        Job {
+            kind: JobKind::Show,
+            form: Some(Form::SelfDelimited),
+            padding: None,
+            ..NORM
+        },
+    ),
+    ("send", SEND),
+    (
+        "--pt 127 --seq 65535 send --stamp=4294967295 --ssrc 4294967295",
+        Job {
+            pt: Some(127),
+            seq: Some(65_535),
+            stamp: Some(4_294_967_295),
+            ssrc: Some(4_294_967_295),
+            ..SEND
+        },
+    ),
+    (
+        "replay",
+        Job {
+            kind: JobKind::Replay,
+            ..BARE
+        },
+    ),
+    (
+        "recv --pt 0 --ssrc 1",
+        Job {
+            kind: JobKind::Recv,
+            pt: Some(0),
+            ssrc: Some(1),
+            ..BARE
+        },
+    ),
+    (
+        "sdp",
+        Job {
+            kind: JobKind::Sdp,
+            ..BARE
+        },
+    ),
+    (
+        "apart --streams 255",
+        Job {
+            kind: JobKind::Apart,
+            streams: Some(255),
+            ..BARE
+        },
+    ),
+    (
+        "join --streams 1",
+        Job {
+            kind: JobKind::Join,
+            streams: Some(1),
+            ..BARE
+        },
+    ),
+    (
+        "extract --streams 255 --stream 254",
+        Job {
+            kind: JobKind::Extract,
+            streams: Some(255),
+            stream: Some(254),
+            ..BARE
+        },
+    ),
+    ("split", SPLIT),
+    (
+        "split --frames 48",
+        Job {
+            frames: Some(48),
+            ..SPLIT
+        },
+    ),
+    (
+        "--frames=5 split --form self",
+        Job {
+            form: Some(Form::SelfDelimited),
+            frames: Some(5),
+            ..SPLIT
+        },
+    ),
+    (
+        "pad --size 33554431",
+        Job {
+            kind: JobKind::Pad,
+            form: Some(Form::Raw),
+            streams: None,
+            size: Some(33_554_431),
+            padding: None,
+            ..NORM
+        },
+    ),
+];
+
+fn is_taken(alloc: Global, row: &(&str, Job)) -> Result<bool, AllocError> {
+    Ok(answer(alloc, row.0)? == Ok(row.1))
 }
 
 #[test]
-fn takes_show_recv_replay_and_sdp(rt: HostRuntime) -> Result<(), Fail> {
-    let mut show = NORM;
-    show.kind = JobKind::Show;
-    show.form = Some(Form::SelfDelimited);
-    show.padding = None;
-    assert_eq!(rt; answer(rt.alloc(), "show --form self")?, Ok(show));
-    let mut replay = SEND;
-    (replay.kind, replay.pt, replay.seq) = (JobKind::Replay, None, None);
-    (replay.stamp, replay.ssrc) = (None, None);
-    assert_eq!(rt; answer(rt.alloc(), "replay")?, Ok(replay));
-    let mut recv = replay;
-    (recv.kind, recv.pt, recv.ssrc) = (JobKind::Recv, Some(0), Some(1));
-    assert_eq!(rt; answer(rt.alloc(), "recv --pt 0 --ssrc 1")?, Ok(recv));
-    replay.kind = JobKind::Sdp;
-    assert_eq!(rt; answer(rt.alloc(), "sdp")?, Ok(replay));
-    Ok(())
-}
-
-#[test]
-fn takes_the_jobs_over_streams(rt: HostRuntime) -> Result<(), Fail> {
-    let rows = [
-        ("apart --streams 255", JobKind::Apart, 255, None),
-        ("join --streams 1", JobKind::Join, 1, None),
-        (
-            "extract --streams 255 --stream 254",
-            JobKind::Extract,
-            255,
-            Some(254),
-        ),
-    ];
-    for (line, kind, streams, stream) in rows {
-        let mut job = SEND;
-        (job.kind, job.pt, job.seq) = (kind, None, None);
-        (job.stamp, job.ssrc) = (None, None);
-        (job.streams, job.stream) = (Some(streams), stream);
-        assert_eq!(rt; answer(rt.alloc(), line)?, Ok(job), "{line}");
+fn words_stand_for_jobs(rt: HostRuntime) -> Result<(), Fail> {
+    for row in JOBS {
+        assert!(rt; is_taken(rt.alloc(), row)?, "{row:?}");
     }
-    let mut norm = NORM;
-    norm.streams = Some(2);
-    assert_eq!(rt; answer(rt.alloc(), "norm --streams 2")?, Ok(norm));
-    Ok(())
-}
-
-#[test]
-fn takes_split_with_its_frames(rt: HostRuntime) -> Result<(), Fail> {
-    let rows = [
-        ("split", Form::Demo, 1),
-        ("split --frames 48", Form::Demo, 48),
-        ("--frames=5 split --form self", Form::SelfDelimited, 5),
-    ];
-    for (line, form, frames) in rows {
-        let mut split = NORM;
-        split.kind = JobKind::Split;
-        split.form = Some(form);
-        split.streams = None;
-        split.frames = Some(frames);
-        split.padding = None;
-        assert_eq!(rt; answer(rt.alloc(), line)?, Ok(split), "{line}");
-    }
-    Ok(())
-}
-
-#[test]
-fn takes_pad_with_its_size(rt: HostRuntime) -> Result<(), Fail> {
-    let mut pad = NORM;
-    pad.kind = JobKind::Pad;
-    pad.form = Some(Form::Raw);
-    pad.streams = None;
-    pad.size = Some(33_554_431);
-    pad.padding = None;
-    assert_eq!(rt; answer(rt.alloc(), "pad --size 33554431")?, Ok(pad));
     Ok(())
 }
 
@@ -234,19 +281,19 @@ extract --streams 2 --stream 2 = Value(Stream)
 norm --form self --streams 2 = Value(Streams)
 ";
 
+fn is_named(alloc: Global, row: &str) -> Result<bool, Fail> {
+    let (line, want) = row.split_once(" = ").ok_or("a row has two parts")?;
+    let Err(kind) = answer(alloc, line)? else {
+        return Ok(false);
+    };
+    let text = format!(in alloc; "{kind:?}")?;
+    Ok(text.as_str() == format!(in alloc; "Usage({want})")?.as_str())
+}
+
 #[test]
 fn names_what_is_wrong(rt: HostRuntime) -> Result<(), Fail> {
     for row in ROWS.lines() {
-        let (line, want) = row.split_once(" = ").ok_or("a row has two parts")?;
-        let kind = answer(rt.alloc(), line)?
-            .err()
-            .ok_or("a row has a usage kind")?;
-        let text = format!(in rt.alloc(); "{kind:?}")?;
-        assert_eq!(rt;
-            text.as_str(),
-            format!(in rt.alloc(); "Usage({want})")?.as_str(),
-            "{line}"
-        );
+        assert!(rt; is_named(rt.alloc(), row)?, "{row}");
     }
     Ok(())
 }

@@ -1,12 +1,12 @@
 //! Runs of a job that writes the packets of a capture and refuses it where it goes wrong or is cut.
 ghost use Rattle.dump_records.specs.Sample.{packets};
 
-use super::{CAPTURE, OPENING, STEPS};
+use super::{CAPTURE, OPENING};
 use dump_records::{DumpForm, Found, Item};
 use job_loop::{Ending, InputEnd, JobStop, Lent, RecordJob, run_job};
 use opus_io::{MemorySink, MemorySource, Sink, write_all};
 use rec_store::StoreFault;
-use std::alloc::Global;
+use std::alloc::{AllocError, Global};
 use std::test::Fail;
 
 #[derive(Drop)]
@@ -53,53 +53,95 @@ impl RecordJob<Item, StoreFault> for Packets {
     }
 }
 
-// How the job ends over an input, and how many bytes it wrote. The read of that number fails.
-fn run(
-    alloc: Global,
-    input: &[u8],
-    step: usize,
-    fails: &[u64],
-) -> Result<(Ending<StoreFault>, usize), Fail> {
-    let mut source = MemorySource::new(alloc, input, step.max(1), fails)?;
+// How many bytes of a text an input begins with, that text, what stands behind them, and how many sevens at the end;
+// the steps of its source, the read that fails, how the job ends, and how many bytes it wrote.
+type Row = (
+    usize,
+    &'static [u8],
+    &'static [u8],
+    usize,
+    &'static [usize],
+    &'static [u64],
+    Ending<StoreFault>,
+    usize,
+);
+
+// The reads that fail lie behind the byte that decides the fault, which is answered though the input goes on. The last
+// record, of 65,535 bytes, is the longest, and is kept in pieces.
+const ROWS: &[Row] = &[
+    (206, CAPTURE, b"", 0, &[1, 3, 4096], &[], Ending::Ok, 107),
+    (
+        205,
+        CAPTURE,
+        b"",
+        0,
+        &[1, 3, 4096],
+        &[],
+        Ending::Refused(StoreFault::StoreCut(205)),
+        93,
+    ),
+    (
+        15,
+        b"#!Atpplay1.0 /\n",
+        b"",
+        0,
+        &[1],
+        &[4],
+        Ending::Refused(StoreFault::DumpLine(2)),
+        0,
+    ),
+    (
+        30,
+        OPENING,
+        b"\0\x07\0\0\0\0\0\0",
+        0,
+        &[1],
+        &[33],
+        Ending::Refused(StoreFault::DumpLength(30)),
+        0,
+    ),
+    (
+        30,
+        OPENING,
+        b"\xFF\xFF\xFF\xF7\0\0\0\0",
+        65_527,
+        &[1000, 4096],
+        &[],
+        Ending::Ok,
+        65_527,
+    ),
+];
+
+fn input_of(alloc: Global, row: &Row) -> Result<Vec<u8>, AllocError> {
+    let mut input = Vec::from_slice(alloc, row.1.get(..row.0).unwrap_or(&[]))?;
+    input.extend_from_slice(row.2)?;
+    for _ in 0..row.3 {
+        input.push(7)?;
+    }
+    Ok(input)
+}
+
+fn ends_so(alloc: Global, input: &[u8], step: usize, row: &Row) -> Result<bool, Fail> {
+    let mut source = MemorySource::new(alloc, input, step.max(1), row.5)?;
     let mut sink = MemorySink::new(alloc, 4096, &[])?;
     let form = DumpForm::new(alloc)?;
     let end = run_job(alloc, 100_000, form, &mut Packets, &mut source, &mut sink);
-    Ok((end, sink.contents().len()))
+    Ok((end, sink.contents().len()) == (row.6, row.7))
+}
+
+fn all_end_so(alloc: Global, row: &Row) -> Result<bool, Fail> {
+    let input = input_of(alloc, row)?;
+    let mut all = true;
+    for step in row.4 {
+        all = all && ends_so(alloc, &input, *step, row)?;
+    }
+    Ok(all)
 }
 
 #[test]
 fn a_run_writes_the_packets(rt: HostRuntime) -> Result<(), Fail> {
-    let alloc = rt.alloc();
-    let cut = Ending::Refused(StoreFault::StoreCut(205));
-    for step in STEPS {
-        assert_eq!(rt; run(alloc, CAPTURE, step, &[])?, (Ending::Ok, 107));
-        assert_eq!(rt; run(alloc, &CAPTURE[..205], step, &[])?, (cut, 93));
-    }
-    Ok(())
-}
-
-// The read behind the byte that decides the fault would fail.
-#[test]
-fn a_fault_is_answered_though_the_input_goes_on(rt: HostRuntime) -> Result<(), Fail> {
-    let alloc = rt.alloc();
-    let line = Ending::Refused(StoreFault::DumpLine(2));
-    assert_eq!(rt; run(alloc, b"#!Atpplay1.0 /\n", 1, &[4])?, (line, 0));
-    let mut input = Vec::from_slice(alloc, OPENING)?;
-    input.extend_from_slice(b"\0\x07\0\0\0\0\0\0")?;
-    let length = Ending::Refused(StoreFault::DumpLength(30));
-    assert_eq!(rt; run(alloc, &input, 1, &[33])?, (length, 0));
-    Ok(())
-}
-
-// A record of 65,535 bytes, the longest, is kept in pieces.
-#[test]
-fn the_longest_record_is_kept(rt: HostRuntime) -> Result<(), Fail> {
-    let alloc = rt.alloc();
-    let mut input = Vec::from_slice(alloc, OPENING)?;
-    input.extend_from_slice(b"\xFF\xFF\xFF\xF7\0\0\0\0")?;
-    input.extend_from_slice(&vec![in alloc; 7; 65_527]?)?;
-    for step in [1000, 4096] {
-        assert_eq!(rt; run(alloc, &input, step, &[])?, (Ending::Ok, 65_527));
+    for row in ROWS {
+        assert!(rt; all_end_so(rt.alloc(), row)?, "{row:?}");
     }
     Ok(())
 }

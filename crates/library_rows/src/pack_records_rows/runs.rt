@@ -2,16 +2,19 @@
 ghost use Rattle.std.specs.Prelude.{[]};
 ghost use Rattle.job_loop.specs.Meaning.{goes};
 
-use super::{DROP, STEPS};
-use job_loop::{Ending, InputEnd, JobStop, Lent, RecordJob, run_job};
+use super::STEPS;
+use job_loop::{Ending, InputEnd, JobStop, Lent, Numbers, RecordJob, run_job};
+use opus_feed::{Framing, Padding};
 use opus_io::{MemorySink, MemorySource, Sink, write_all};
-use pack_records::{Cut, Item, RawForm, SelfForm};
+use pack_records::{Cut, RawForm, SelfForm};
+use std::alloc::Global;
 use std::test::Fail;
 
+// Writes the bytes of each record.
 #[derive(Drop)]
-struct Texts;
+pub(crate) struct Texts;
 
-impl RecordJob<Item, Cut> for Texts {
+impl<N: Numbers> RecordJob<N, Cut> for Texts {
     type Refusal = bool;
 
     ghost Kept = { Unit {0} };
@@ -31,7 +34,7 @@ impl RecordJob<Item, Cut> for Texts {
         &[]
     }
 
-    fn take<O: Sink>(&mut self, item: &Lent<'_, Item>, out: &mut O) -> Result<(), JobStop<bool>> {
+    fn take<O: Sink>(&mut self, item: &Lent<'_, N>, out: &mut O) -> Result<(), JobStop<bool>> {
         write_all(out, item.bytes())?;
         Ok(())
     }
@@ -42,24 +45,51 @@ impl RecordJob<Item, Cut> for Texts {
     }
 }
 
+// An input in a framing, and what the run writes.
+const ROWS: &[(Framing, &[u8], &[u8])] = &[
+    (
+        Framing::Whole,
+        b"\xFA\x02\xAA\xBB\xCC\xDD",
+        b"\xF9\xAA\xBB\xCC\xDD",
+    ),
+    (
+        Framing::SelfDelimited,
+        b"\xFB\x41\x01\x02\xAA\xBB\x00\xF8\x00",
+        b"\xF8\x02\xAA\xBB\xF8\x00",
+    ),
+];
+
+fn run(
+    alloc: Global,
+    framing: Framing,
+    source: &mut MemorySource,
+    sink: &mut MemorySink,
+) -> Result<Ending<bool>, Fail> {
+    match framing {
+        Framing::Whole => {
+            let form = RawForm::new(alloc, Padding::Drop)?;
+            Ok(run_job(alloc, 9, form, &mut Texts, source, sink))
+        }
+        Framing::SelfDelimited => {
+            let form = SelfForm::new(alloc, Padding::Drop)?;
+            Ok(run_job(alloc, 9, form, &mut Texts, source, sink))
+        }
+    }
+}
+
+fn is_written(alloc: Global, row: &(Framing, &[u8], &[u8]), step: usize) -> Result<bool, Fail> {
+    let mut source = MemorySource::new(alloc, row.1, step.max(1), &[])?;
+    let mut sink = MemorySink::new(alloc, step.max(1), &[])?;
+    let end = run(alloc, row.0, &mut source, &mut sink)?;
+    Ok(end == Ending::Ok && sink.contents() == row.2)
+}
+
 #[test]
 fn a_run_gives_the_kept_forms(rt: HostRuntime) -> Result<(), Fail> {
-    let alloc = rt.alloc();
-    for step in STEPS {
-        let mut source = MemorySource::new(alloc, b"\xFA\x02\xAA\xBB\xCC\xDD", step.max(1), &[])?;
-        let mut sink = MemorySink::new(alloc, step.max(1), &[])?;
-        let form = RawForm::new(alloc, DROP)?;
-        let end = run_job(alloc, 9, form, &mut Texts, &mut source, &mut sink);
-        assert_eq!(rt; end, Ending::Ok);
-        assert_eq!(rt; sink.contents(), b"\xF9\xAA\xBB\xCC\xDD".as_slice());
-
-        let input = b"\xFB\x41\x01\x02\xAA\xBB\x00\xF8\x00";
-        let mut source = MemorySource::new(alloc, input, step.max(1), &[])?;
-        let mut sink = MemorySink::new(alloc, step.max(1), &[])?;
-        let form = SelfForm::new(alloc, DROP)?;
-        let end = run_job(alloc, 9, form, &mut Texts, &mut source, &mut sink);
-        assert_eq!(rt; end, Ending::Ok);
-        assert_eq!(rt; sink.contents(), b"\xF8\x02\xAA\xBB\xF8\x00".as_slice());
+    for row in ROWS {
+        for step in STEPS {
+            assert!(rt; is_written(rt.alloc(), row, step)?, "{row:?} by {step}");
+        }
     }
     Ok(())
 }

@@ -1,10 +1,10 @@
 //! Many streams, and much padding.
 
-use super::{DROP, KEEP, MOST, STEPS, Spelled, are_spelled};
+use super::{DROP, KEEP, MOST, STEPS, Spelled, are_spelled, feeds};
 use job_loop::Form;
 use opus_feed::Padding;
 use pack_records::Cut;
-use std::alloc::Global;
+use std::alloc::{AllocError, Global};
 use std::test::Fail;
 use stream_records::{RawStreams, StreamsFound, StreamsItem};
 
@@ -13,22 +13,20 @@ fn is_open_to_its_end<F: Form<Record = StreamsItem, Cut = Cut>>(
     form: &mut F,
     input: &[u8],
     step: usize,
-) -> bool {
+) -> Result<bool, Fail> {
     let mut rest = input;
     let mut at: u64 = 0;
-    let mut early = false;
     for _ in 0..input.len() {
-        let piece = &rest[..rest.len().min(step.min(4096))];
+        let piece = rest.get(..step).unwrap_or(rest);
         if !piece.is_empty() {
-            let Ok(fed) = form.feed(at.min(MOST), piece) else {
-                return false;
+            let Some(fed) = feeds(form, at, piece, None)? else {
+                return Ok(false);
             };
-            early = early || fed.whole;
             at = at.saturating_add(fed.count as u64);
-            rest = &rest[fed.count..];
+            rest = rest.get(fed.count..).unwrap_or(&[]);
         }
     }
-    !early
+    Ok(rest.is_empty())
 }
 
 // The record of the input is these streams, with these bytes.
@@ -38,36 +36,52 @@ fn has<F: Form<Record = StreamsItem, Cut = Cut>>(
     step: usize,
     spelled: &[Spelled],
     bytes: &[u8],
-) -> bool {
-    let late = is_open_to_its_end(form, input, step);
-    let close = form.end((input.len() as u64).min(MOST));
-    if !close.whole {
-        return false;
+) -> Result<bool, Fail> {
+    let late = is_open_to_its_end(form, input, step)?;
+    if !form.end((input.len() as u64).min(MOST)).whole {
+        return Ok(false);
     }
     let lent = form.record(&[]);
     let found = lent.item().found == StreamsFound::Packets;
-    late && found && are_spelled(lent.item(), spelled) && lent.bytes() == bytes
+    Ok(late && found && are_spelled(lent.item(), spelled) && lent.bytes() == bytes)
 }
 
 // 254 empty self-delimited packets and one undelimited packet of one byte.
-#[test]
-fn reads_255_streams(rt: HostRuntime) -> Result<(), Fail> {
-    let mut bytes = Vec::new(rt.alloc());
+fn of_255_streams(alloc: Global) -> Result<Vec<u8>, AllocError> {
+    let mut bytes = Vec::new(alloc);
     for _ in 0..254 {
         bytes.extend_from_slice(&[0xF8, 0])?;
     }
     bytes.push(0xF8)?;
+    Ok(bytes)
+}
+
+fn are_255(alloc: Global, step: usize) -> Result<bool, Fail> {
+    let bytes = of_255_streams(alloc)?;
     let mut spelled = [(0, 0, 2, 0); 255];
     spelled[254] = (0, 0, 1, 0);
+    let mut form = RawStreams::new(alloc, 255, DROP)?;
+    has(&mut form, &bytes, step, &spelled, &bytes)
+}
+
+#[test]
+fn reads_255_streams(rt: HostRuntime) -> Result<(), Fail> {
     for step in STEPS {
-        let mut form = RawStreams::new(rt.alloc(), 255, DROP)?;
-        assert!(rt; has(&mut form, &bytes, step, &spelled, &bytes), "{step}");
+        assert!(rt; are_255(rt.alloc(), step)?, "{step}");
     }
     Ok(())
 }
 
+// The padding bytes of the first of two streams beyond 65,532, what becomes of them, how that stream is spelled, and
+// whether the bytes lent are the input's. Else they are those of the canonical form.
+const PADDINGS: &[(u8, Padding, Spelled, bool)] = &[
+    (3, KEEP, (3, 65794, 65798, 0), true),
+    (3, DROP, (3, 65794, 65798, 65535), false),
+    (4, KEEP, (3, 65795, 65799, 65536), false),
+];
+
 // Two streams, the first with 65,532 padding bytes and `last` others.
-fn padded(alloc: Global, last: u8) -> Result<Vec<u8>, Fail> {
+fn padded(alloc: Global, last: u8) -> Result<Vec<u8>, AllocError> {
     let mut bytes = Vec::new(alloc);
     bytes.extend_from_slice(&[0xFB, 0x41])?;
     bytes.resize(2 + 258, 255)?;
@@ -77,30 +91,20 @@ fn padded(alloc: Global, last: u8) -> Result<Vec<u8>, Fail> {
     Ok(bytes)
 }
 
-// The first stream in this shape, and the second as it is.
-fn first(
-    alloc: Global,
-    padding: Padding,
-    last: u8,
-    spelled: Spelled,
-    kept: &[u8],
-) -> Result<bool, Fail> {
-    let input = padded(alloc, last)?;
-    let mut all = true;
-    for step in STEPS {
-        let mut form = RawStreams::new(alloc, 2, padding)?;
-        all = all && has(&mut form, &input, step, &[spelled, (0, 0, 2, 0)], kept);
-    }
-    Ok(all)
+fn is_kept(alloc: Global, row: &(u8, Padding, Spelled, bool), step: usize) -> Result<bool, Fail> {
+    let input = padded(alloc, row.0)?;
+    let plain: &[u8] = b"\xF8\x01\xAA\xF8\xBB";
+    let kept = if row.3 { input.as_slice() } else { plain };
+    let mut form = RawStreams::new(alloc, 2, row.1)?;
+    has(&mut form, &input, step, &[row.2, (0, 0, 2, 0)], kept)
 }
 
 #[test]
 fn padding_bytes_are_kept_up_to_65535(rt: HostRuntime) -> Result<(), Fail> {
-    let alloc = rt.alloc();
-    let most = padded(alloc, 3)?;
-    let plain: &[u8] = b"\xF8\x01\xAA\xF8\xBB";
-    assert!(rt; first(alloc, KEEP, 3, (3, 65794, 65798, 0), &most)?);
-    assert!(rt; first(alloc, DROP, 3, (3, 65794, 65798, 65535), plain)?);
-    assert!(rt; first(alloc, KEEP, 4, (3, 65795, 65799, 65536), plain)?);
+    for row in PADDINGS {
+        for step in STEPS {
+            assert!(rt; is_kept(rt.alloc(), row, step)?, "{row:?} by {step}");
+        }
+    }
     Ok(())
 }

@@ -1,72 +1,124 @@
 //! One multistream packet.
 
-use super::{
-    DROP, KEEP, PADDED, PADDED_KEPT, PLAIN, Row, STEPS, UNEQUAL, broken, packets, says, unequal,
-};
+use super::{DROP, Held, Input, KEEP, PADDED, PADDED_KEPT, PLAIN, STEPS, UNEQUAL, says};
 use job_loop::Form;
-use opus_feed::Padding;
 use opus_multi::{MultiFault, decode_multi};
 use opus_packet::Rule;
 use pack_records::Cut;
 use std::alloc::Global;
-use std::process::Abort;
 use std::test::Fail;
 use stream_records::{RawStreams, StreamsFound, StreamsItem};
 
-// An input, its number of streams, what becomes of padding bytes, and its one record.
-type Input = (&'static [u8], u8, Padding, Row);
+// Inputs that are one record, whatever the size of the pieces: the streams that read, and the first that doesn't.
+const ROWS: &[Input<'static>] = &[
+    (
+        PADDED,
+        2,
+        DROP,
+        &[(0, 9, 0, Held::Packets(&[(3, 2, 6, 1), (3, 0, 3, 0)]), PLAIN)],
+        None,
+    ),
+    (
+        PADDED,
+        2,
+        KEEP,
+        &[(
+            0,
+            9,
+            0,
+            Held::Packets(&[(3, 2, 6, 0), (3, 0, 3, 0)]),
+            PADDED_KEPT,
+        )],
+        None,
+    ),
+    (
+        b"\xF8\xBB",
+        1,
+        DROP,
+        &[(0, 2, 0, Held::Packets(&[(0, 0, 2, 0)]), b"\xF8\xBB")],
+        None,
+    ),
+    (
+        UNEQUAL,
+        2,
+        DROP,
+        &[(0, 5, 0, Held::Unequal(1, 3), b"")],
+        None,
+    ),
+    (
+        b"\xF8\0\xF0\0\xE0\xBB",
+        3,
+        DROP,
+        &[(0, 6, 0, Held::Unequal(1, 2), b"")],
+        None,
+    ),
+    (
+        b"\xF8\x01\xAA",
+        2,
+        DROP,
+        &[(0, 3, 0, Held::Broken(1, 3, Rule::R1, 0), b"")],
+        None,
+    ),
+    (
+        b"",
+        2,
+        DROP,
+        &[(0, 0, 0, Held::Broken(0, 0, Rule::Cut, 0), b"")],
+        None,
+    ),
+    (
+        b"\xF8\x01\xAA\xF9\xBB",
+        2,
+        DROP,
+        &[(0, 5, 0, Held::Broken(1, 3, Rule::R3, 2), b"")],
+        None,
+    ),
+    (
+        b"\xF8\x01\xAA\xFB\0\xCC\xCC",
+        2,
+        KEEP,
+        &[(0, 5, 0, Held::Broken(1, 3, Rule::R5, 1), b"")],
+        None,
+    ),
+    (
+        b"\xF8\0\xF0\0\xFB\x07\x01",
+        3,
+        DROP,
+        &[(0, 6, 0, Held::Broken(2, 4, Rule::R5, 1), b"")],
+        None,
+    ),
+    (
+        b"\xFB\0\xF8\xBB",
+        2,
+        DROP,
+        &[(0, 2, 0, Held::Broken(0, 0, Rule::R5, 1), b"")],
+        None,
+    ),
+    (
+        b"\xF8\x01\xAA\xF8\x01",
+        3,
+        DROP,
+        &[(0, 5, 0, Held::Broken(1, 3, Rule::Cut, 2), b"")],
+        None,
+    ),
+];
 
-// Whether each input is its record, in pieces of each size.
-fn are_records(rt: &(impl Abort + AllocGlobal), rows: &[Input]) -> Result<(), Fail> {
-    for (input, streams, padding, row) in rows {
+fn is_said(alloc: Global, row: &Input<'_>, step: usize) -> Result<bool, Fail> {
+    says(&mut RawStreams::new(alloc, row.1.max(1), row.2)?, step, row)
+}
+
+#[test]
+fn the_whole_input_is_one_record(rt: HostRuntime) -> Result<(), Fail> {
+    for row in ROWS {
         for step in STEPS {
-            let mut form = RawStreams::new(rt.alloc(), (*streams).max(1), *padding)?;
-            says(rt, &mut form, input, step, &[*row], None)?;
+            assert!(rt; is_said(rt.alloc(), row, step)?, "{row:?} by {step}");
         }
     }
     Ok(())
 }
 
-#[test]
-fn the_whole_input_is_one_record(rt: HostRuntime) -> Result<(), Fail> {
-    let dropped = packets(0, 9, 0, &[(3, 2, 6, 1), (3, 0, 3, 0)], PLAIN);
-    let kept = packets(0, 9, 0, &[(3, 2, 6, 0), (3, 0, 3, 0)], PADDED_KEPT);
-    let single = packets(0, 2, 0, &[(0, 0, 2, 0)], b"\xF8\xBB");
-    let rows: [Input; 5] = [
-        (PADDED, 2, DROP, dropped),
-        (PADDED, 2, KEEP, kept),
-        (b"\xF8\xBB", 1, DROP, single),
-        (UNEQUAL, 2, DROP, unequal(0, 5, 1, 3)),
-        (b"\xF8\0\xF0\0\xE0\xBB", 3, DROP, unequal(0, 6, 1, 2)),
-    ];
-    are_records(&rt, &rows)
-}
-
-#[test]
-fn the_first_stream_that_does_not_read_is_named(rt: HostRuntime) -> Result<(), Fail> {
-    let three = broken(0, 5, 1, 3, Rule::R3, 2);
-    let none = broken(0, 5, 1, 3, Rule::R5, 1);
-    let long = broken(0, 6, 2, 4, Rule::R5, 1);
-    let cut = broken(0, 5, 1, 3, Rule::Cut, 2);
-    let rows: [Input; 7] = [
-        (b"\xF8\x01\xAA", 2, DROP, broken(0, 3, 1, 3, Rule::R1, 0)),
-        (b"", 2, DROP, broken(0, 0, 0, 0, Rule::Cut, 0)),
-        (b"\xF8\x01\xAA\xF9\xBB", 2, DROP, three),
-        (b"\xF8\x01\xAA\xFB\0\xCC\xCC", 2, KEEP, none),
-        (b"\xF8\0\xF0\0\xFB\x07\x01", 3, DROP, long),
-        (b"\xFB\0\xF8\xBB", 2, DROP, broken(0, 2, 0, 0, Rule::R5, 1)),
-        (b"\xF8\x01\xAA\xF8\x01", 3, DROP, cut),
-    ];
-    are_records(&rt, &rows)
-}
-
-// What is found of the bytes, as they are read where they lie.
-fn found_by(alloc: Global, bytes: &[u8]) -> Result<Option<MultiFault>, Fail> {
-    match decode_multi(alloc, bytes, 2) {
-        Ok(_) => Ok(None),
-        Err(fault) => Ok(Some(fault)),
-    }
-}
+// Inputs of two streams, each of whose fronts is found as it is read where it lies.
+const INPUTS: &[&[u8]] = &[PADDED, PLAIN, UNEQUAL, b"\xF8\x01\xAA\xFB\0"];
 
 fn fault_of(found: StreamsFound) -> Option<MultiFault> {
     match found {
@@ -74,21 +126,6 @@ fn fault_of(found: StreamsFound) -> Option<MultiFault> {
         StreamsFound::Unequal { stream, .. } => Some(MultiFault::Unequal(stream)),
         _ => None,
     }
-}
-
-#[test]
-fn each_front_is_found_as_it_is_read_where_it_lies(rt: HostRuntime) -> Result<(), Fail> {
-    let rows: [&[u8]; 4] = [PADDED, PLAIN, UNEQUAL, b"\xF8\x01\xAA\xFB\0"];
-    for input in rows {
-        for count in 0..=input.len() {
-            let front = input.get(..count).unwrap_or(&[]);
-            let mut form = RawStreams::new(rt.alloc(), 2, DROP)?;
-            let found = front_found(&mut form, front);
-            let wanted = found_by(rt.alloc(), front)?;
-            assert_eq!(rt; found.map(fault_of), Some(wanted), "{front:?}");
-        }
-    }
-    Ok(())
 }
 
 // What the form finds of a small input in one piece.
@@ -108,4 +145,27 @@ fn front_found<F: Form<Record = StreamsItem, Cut = Cut>>(
     } else {
         None
     }
+}
+
+fn is_found(alloc: Global, front: &[u8]) -> Result<bool, Fail> {
+    let mut form = RawStreams::new(alloc, 2, DROP)?;
+    let found = front_found(&mut form, front).map(fault_of);
+    Ok(found == Some(decode_multi(alloc, front, 2).err()))
+}
+
+// The input's fronts of each length are found as they are read.
+fn are_found(alloc: Global, input: &[u8]) -> Result<bool, Fail> {
+    let mut all = true;
+    for count in 0..=input.len() {
+        all = all && is_found(alloc, input.get(..count).unwrap_or(&[]))?;
+    }
+    Ok(all)
+}
+
+#[test]
+fn each_front_is_found_as_it_is_read_where_it_lies(rt: HostRuntime) -> Result<(), Fail> {
+    for input in INPUTS {
+        assert!(rt; are_found(rt.alloc(), input)?, "{input:?}");
+    }
+    Ok(())
 }
