@@ -23,4 +23,3 @@ pub use kind::JobKind;
 pub use option::Opt;
 pub use padding::padding_name;
 pub use words::job_of;
-
