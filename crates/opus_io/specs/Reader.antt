@@ -63,6 +63,15 @@ pub record Looked (old new : ReaderState) (left left' : Option (List ℕ))
   pub stops : new.passed ≡ new.limit → 0 < length new.bytes → IsErrOf result Limit
   pub fault : IsErrOf result Read → new.bytes ≡ []
 
+-- how many bytes a look shows, and when it stops
+pub record LookedAt (old new : ReaderState) (left left' : Option (List ℕ)) (result : Result ℕ InStop) : Type 0 where
+  pub stays : Stays old new left left'
+  pub shown : IfOk result (λ n. n ≡ length (take (new.limit - new.passed) new.bytes))
+  pub end : IfOk result (λ n. n ≡ 0 → (new.bytes ≡ []) × IsAtEnd left')
+  pub past : IsErrOf result Limit → (new.passed ≡ new.limit) × (0 < length new.bytes)
+  pub stops : new.passed ≡ new.limit → 0 < length new.bytes → IsErrOf result Limit
+  pub fault : IsErrOf result Read → new.bytes ≡ []
+
 -- a look's stops and the source's count of faults: it never falls, and changes only at Read
 pub record LookCause {T : Type 0} (before now : ℕ) (result : Result T InStop) : Type 0 where
   pub later : before ≤ now

@@ -4,7 +4,7 @@ ghost use Rattle.std.specs.Io.KnownBytes.{ReadConsumes};
 ghost use Rattle.std.specs.Io.BufRead.{Rests};
 ghost use Rattle.std.specs.Borrow.{sem};
 ghost use Rattle.opus_io.specs.Source.{SourceCause};
-ghost use Rattle.opus_io.specs.Reader.{ReaderState, max_input, Fits, Filled, Looked, LookCause};
+ghost use Rattle.opus_io.specs.Reader.{ReaderState, max_input, Fits, Filled, Looked, LookedAt, LookCause};
 
 use crate::{Failed, NoMemory, Source};
 use std::alloc::Global;
@@ -84,16 +84,26 @@ impl Reader {
         ensures cause { LookCause (S.faults source.old) (S.faults source.new) result }
         ensures fault { IsErrOf result InStop.Read → self.old.bytes ≡ [] }
     {
-        if let Err(stop) = self.fill(source) {
+        if let Err(stop) = self.look(source) {
             return Err(stop);
         }
-        let kept = self.end - self.start;
-        let shown = least(kept, self.limit - self.passed);
-        if shown == 0 && kept > 0 {
+        Ok(self.shown())
+    }
+
+    /// Reads the source, once, where no byte is kept, and answers how many bytes `shown` shows then: 0 at the end of
+    /// the input.
+    pub fn look<S: Source>(&mut self, source: &mut S) -> Result<usize, InStop>
+        ensures looked { LookedAt self.old self.new (S.left source.old) (S.left source.new) result }
+        ensures untouched { self.old.bytes ≢ [] → source.new ≡ source.old }
+        ensures cause { LookCause (S.faults source.old) (S.faults source.new) result }
+        ensures fault { IsErrOf result InStop.Read → self.old.bytes ≡ [] }
+    {
+        self.fill(source)?;
+        let shown = self.shown().len();
+        if shown == 0 && self.is_filled() {
             return Err(InStop::Limit);
         }
-        let start = self.start;
-        Ok(&self.buffer[start..start + shown])
+        Ok(shown)
     }
 
     /// Reads the source, once, where no byte is kept. It may find none: then the source is at its end.

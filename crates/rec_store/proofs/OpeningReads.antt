@@ -1,7 +1,7 @@
 -- How the opening of a capture is taken: its first line, and then its head.
 use Rattle.std.proofs.Common.{◌≡◌, ℕ, ◌+◌, ◌<◌, ◌≤◌, List, ◌++◌, Err, Result, length, refl, sym, subst, arith}
 use Rattle.std.specs.declared.option.Option.{Option}
-use Rattle.opus_io.specs.Reader.{ReaderState, Stays, Looked}
+use Rattle.opus_io.specs.Reader.{ReaderState, Stays, LookedAt}
 use Rattle.opus_io.specs.declared.reader.InStop.{InStop}
 use Rattle.opus_io.specs.declared.reader.InStop.TheVariants.{Read, Limit}
 use Rattle.rec_store.specs.DemoReader.{Passed, NothingComes}
@@ -16,7 +16,6 @@ use Rattle.rec_store.specs.declared.stop.StoreStop.{StoreStop}
 use Rattle.rec_store.specs.declared.stop.StoreStop.TheVariants.{Fault}
 use Rattle.rec_store.proofs.PartLemmas.{opening_part-line, opening_part-head}
 use Rattle.rec_store.proofs.TakeLemmas.{Begun, Begun-looked, Passed-trans, passed_some, Took-last}
-use denote.Ref.{Bor}
 
 -- so many bytes of a first line were taken
 pub record InLine (seen : ℕ) (old new : ReaderState) (left left' : Option (List ℕ)) : Type 0 where
@@ -35,8 +34,8 @@ line_looked seen old mid new left left' left'' line stays = record {
 }
 
 pub line_stopped : (stop : InStop) (said : StoreStop) (seen : ℕ) (old mid new : ReaderState)
-    (left left' left'' : Option (List ℕ)) (look : Result (Bor (List ℕ)) InStop) → said ≡ stop_of stop → look ≡ Err stop
-    → InLine seen old mid left left' → Looked mid new left' left'' look → StartStop said old new left left''
+    (left left' left'' : Option (List ℕ)) (look : Result ℕ InStop) → said ≡ stop_of stop → look ≡ Err stop
+    → InLine seen old mid left left' → LookedAt mid new left' left'' look → StartStop said old new left left''
 line_stopped Read said seen old mid new left left' left'' look told is line looked =
     subst (λ s. StartStop s old new left left'') (sym told)
     (line_looked seen old mid new left left' left'' line looked.stays, looked.fault is)

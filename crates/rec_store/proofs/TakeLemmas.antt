@@ -1,6 +1,6 @@
 -- How bytes of a store are taken one after the other.
 use Rattle.std.proofs.Common.{◌≡◌, ◌≢◌, ◌⊎◌, inl, inr, ℕ, ◌+◌, ◌-◌, ◌<◌, ◌≤◌, List, [], ◌++◌, length, length-append, length-take, length-drop, take, drop, take-append-drop, sym, ap, ◌∙◌, subst, Some, None, arith}
-use Rattle.std.proofs.lemmas.List.{length-take-le, nil_from_length, take-take}
+use Rattle.std.proofs.lemmas.List.{length-take-le, take-take}
 use Rattle.std.specs.declared.option.Option.{Option}
 use Rattle.std.specs.Io.KnownBytes.{Consumes, IsAtEnd, prepend_known}
 use Rattle.std.proofs.KnownBytes.{Consumes-kept, Consumes-trans, prepend_known-read}
@@ -106,10 +106,9 @@ Took-last most old new left left' bytes took some = go took.last_read
     go (inr same) = absurd (omega (arith, ap (λ (k : ReaderState). k.passed) same, took.passed.passed, some))
 
 -- a look that shows nothing
-pub nothing_shown : (new : ReaderState) (left : Option (List ℕ)) (shown : List ℕ) → length shown ≡ 0
-    → (shown ≡ [] → (new.bytes ≡ []) × IsAtEnd left) → NothingComes new left
-nothing_shown new left shown none end =
-    let said = end (nil_from_length shown none) in
+pub nothing_shown : (new : ReaderState) (left : Option (List ℕ)) → (new.bytes ≡ []) × IsAtEnd left
+    → NothingComes new left
+nothing_shown new left said =
     record { kept = said.0; end = subst (λ l. IsAtEnd (prepend_known l left)) (sym said.0) (at_end left said.1) }
   where
     at_end : (left : Option (List ℕ)) → IsAtEnd left → IsAtEnd (prepend_known [] left)

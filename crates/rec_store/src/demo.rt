@@ -107,10 +107,9 @@ impl DemoReader {
         if store.left == 0 {
             return Ok(&[]);
         }
-        let passed = input.passed();
-        match input.ahead(source) {
-            Ok([]) => Err(StoreStop::Fault(StoreFault::StoreCut(passed))),
-            Ok(shown) => Ok(&shown[..shown.len().min(store.left as usize)]),
+        match input.look(source) {
+            Ok(0) => Err(StoreStop::Fault(StoreFault::StoreCut(input.passed()))),
+            Ok(shown) => Ok(&input.shown()[..shown.min(store.left as usize)]),
             Err(InStop::Read) => Err(StoreStop::Read),
             Err(InStop::Limit) => Err(StoreStop::Limit),
         }

@@ -132,14 +132,12 @@ fn take_line<S: Source>(input: &mut Reader, source: &mut S) -> Result<(), StoreS
 {
     let mut seen = 0;
     'line: loop {
-        let shown = match input.ahead(source) {
-            Ok(shown) => shown,
+        match input.look(source) {
+            Ok(0) => return Err(cut_at(input.passed())),
+            Ok(_) => {}
             Err(stop) => return Err(stopped(stop)),
-        };
-        if shown.is_empty() {
-            return Err(cut_at(input.passed()));
         }
-        match line_step(seen, shown) {
+        match line_step(seen, input.shown()) {
             LineStep::More(count) => {
                 input.pass(count);
                 seen += count;

@@ -47,12 +47,12 @@ pub(crate) fn take_bytes<S: Source, R: Room>(
     ensures cause { LookCause (S.faults source.old) (S.faults source.new) result }
 {
     'bytes: while into.count() < most {
-        let shown = input.ahead(source)?;
-        if shown.is_empty() {
+        let ahead = input.look(source)?;
+        if ahead == 0 {
             return Ok(());
         }
-        let count = shown.len().min(most - into.count());
-        into.put(&shown[..count]);
+        let count = ahead.min(most - into.count());
+        into.put(&input.shown()[..count]);
         input.pass(count);
     }
     Ok(())
