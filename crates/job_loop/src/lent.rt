@@ -10,6 +10,11 @@ pub trait Numbers {
     ghost fits: { Self → List ℕ → Type 0 };
 }
 
+// A number that stands for itself: it fits any bytes.
+impl Numbers for u64 {
+    ghost fits = { λ _ _. Unit {0} };
+}
+
 /// A record, lent for one call of a job: its numbers and its bytes. The bytes lie in the reader's own buffer where
 /// they can, and the next read ends the lend.
 #[derive(Drop)]

@@ -18,8 +18,6 @@ mod lent;
 mod put;
 mod records;
 mod run;
-#[cfg(test)]
-mod tests;
 
 pub use ending::Ending;
 pub use form::{Close, Fed, Form};

@@ -4,6 +4,8 @@
 #[cfg(test)]
 mod dump_records_rows;
 #[cfg(test)]
+mod job_loop_rows;
+#[cfg(test)]
 mod net_jobs_rows;
 #[cfg(test)]
 mod opus_feed_rows;

@@ -2,8 +2,7 @@
 ghost use Rattle.std.specs.Prelude.{◌≡◌};
 ghost use Rattle.job_loop.specs.SampleJobs.{payloads};
 
-use crate::put::write_both;
-use crate::{InputEnd, JobStop, Lent, Numbers, RecordJob};
+use job_loop::{InputEnd, JobStop, Lent, Numbers, RecordJob, write_both};
 use opus_io::{Sink, write_all};
 
 #[derive(Drop)]

@@ -2,7 +2,7 @@
 ghost use Rattle.std.specs.Prelude.{◌≡◌, ℕ};
 ghost use Rattle.job_loop.specs.SampleJobs.{counts};
 
-use crate::{InputEnd, JobStop, Lent, Numbers, RecordJob};
+use job_loop::{InputEnd, JobStop, Lent, Numbers, RecordJob};
 use opus_io::{Sink, write_all};
 
 #[derive(Drop)]

@@ -2,7 +2,7 @@
 ghost use Rattle.std.specs.Prelude.{◌≡◌};
 ghost use Rattle.job_loop.specs.SampleJobs.{repeats};
 
-use crate::{InputEnd, JobStop, Lent, Numbers, RecordJob};
+use job_loop::{InputEnd, JobStop, Lent, Numbers, RecordJob};
 use opus_io::{Sink, write_all};
 
 #[derive(Drop)]

@@ -6,8 +6,8 @@ mod payloads;
 mod repeats;
 mod size_form;
 
-use crate::{Ending, run_job};
 use count::Count;
+use job_loop::{Ending, run_job};
 use length_form::LengthForm;
 use opus_io::{MemorySink, MemorySource, NoMemory};
 use payloads::Payloads;

@@ -4,12 +4,8 @@ ghost use Rattle.job_loop.specs.Shown.{Shown};
 ghost use Rattle.job_loop.specs.Samples.{size_record, SizeSettles, SizeEnds};
 ghost use Rattle.job_loop.specs.SampleLaws.{size_grows, size_ends_grow, size_ends_once};
 
-use crate::{Close, Fed, Form, Lent, Numbers};
+use job_loop::{Close, Fed, Form, Lent};
 use opus_io::NoMemory;
-
-impl Numbers for u64 {
-    ghost fits = { λ _ _. Unit {0} };
-}
 
 #[derive(Drop)]
 pub struct SizeForm {

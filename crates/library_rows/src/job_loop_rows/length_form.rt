@@ -5,7 +5,7 @@ ghost use Rattle.job_loop.specs.Shown.{Shown};
 ghost use Rattle.job_loop.specs.Samples.{LengthSettles, LengthEnds, LengthStands, lent_from, lent_record};
 ghost use Rattle.job_loop.specs.SampleLaws.{length_grows, length_ends_grow, length_ends_once, length_settled};
 
-use crate::{Close, Fed, Form, Lent};
+use job_loop::{Close, Fed, Form, Lent};
 use opus_io::NoMemory;
 
 /// Lends a record that lies whole in what it is fed, and keeps one that doesn't.

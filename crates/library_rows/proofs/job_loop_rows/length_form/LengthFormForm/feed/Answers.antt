@@ -3,7 +3,7 @@ use Rattle.job_loop.specs.Shown.{Shown}
 use Rattle.job_loop.specs.Forms.{HasFed}
 use Rattle.job_loop.specs.Samples.{LengthStands, lent_record}
 use Rattle.job_loop.proofs.SampleLemmas.{fed_whole, went_on}
-use Rattle.job_loop.proofs.tests.length_form.LengthFormForm.feed.Goals as goal
+use Rattle.library_rows.proofs.job_loop_rows.length_form.LengthFormForm.feed.Goals as goal
 
 pub returns-clause-fed : goal.returns-clause-fed
 returns-clause-fed c = λ h rs stands size.
