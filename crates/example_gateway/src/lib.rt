@@ -3,8 +3,6 @@
 
 mod fault;
 mod gateway;
-#[cfg(test)]
-mod tests;
 
 pub use fault::GatewayFault;
 pub use gateway::Gateway;

@@ -5,8 +5,6 @@
 pub mod laws;
 mod record;
 mod recorder;
-#[cfg(test)]
-mod tests;
 mod took;
 
 pub use record::MOST_RECORD;

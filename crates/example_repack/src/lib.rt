@@ -3,7 +3,5 @@
 
 pub mod laws;
 mod repacker;
-#[cfg(test)]
-mod tests;
 
 pub use repacker::{MOST_SAMPLES, Repacker};

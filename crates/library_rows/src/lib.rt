@@ -4,6 +4,12 @@
 #[cfg(test)]
 mod dump_records_rows;
 #[cfg(test)]
+mod example_gateway_rows;
+#[cfg(test)]
+mod example_recorder_rows;
+#[cfg(test)]
+mod example_repack_rows;
+#[cfg(test)]
 mod job_loop_rows;
 #[cfg(test)]
 mod net_jobs_rows;
