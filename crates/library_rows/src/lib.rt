@@ -62,6 +62,8 @@ mod stream_jobs_rows;
 #[cfg(test)]
 mod stream_records_rows;
 #[cfg(test)]
+mod table;
+#[cfg(test)]
 mod text_jobs_rows;
 #[cfg(test)]
 mod text_numbers_rows;

@@ -1,60 +1,71 @@
 //! Packets and faults in pieces of every size, beside what `decode` and `decode_self` say of them whole.
+use crate::table::bytes_of;
 use opus_feed::{Feed, Framing, Padding, Step};
-use opus_packet::{Fault, Packet, Rule, Tail, decode};
+use opus_packet::{Fault, Packet, Tail, decode};
 use opus_self::decode_self;
 use std::alloc::Global;
 use std::test::Fail;
 
-// What is said of bytes: size, number of frames, padding total, bytes of all frames and their sum; or the fault.
-type Said = Result<(u32, usize, u32, usize, u64), Fault>;
-
-fn said(packet: &Packet<'_>) -> Said {
+// What is said of a packet: size, number of frames, padding total, bytes of all frames and their sum.
+fn said(alloc: Global, packet: &Packet<'_>) -> Result<String, Fail> {
     let body = packet.body();
     let mut sum: u64 = 0;
     for byte in body {
         sum = sum.wrapping_mul(31).wrapping_add(u64::from(*byte));
     }
-    Ok((
-        packet.size(),
-        packet.count(),
-        packet.shape().pad,
-        body.len(),
-        sum,
-    ))
+    let (size, frames, pad) = (packet.size(), packet.count(), packet.shape().pad);
+    let length = body.len();
+    Ok(format!(in alloc; "{size} {frames} {pad} {length} {sum}")?)
+}
+
+fn fault_of(alloc: Global, fault: Fault) -> Result<String, Fail> {
+    Ok(format!(in alloc; "{fault:?}")?)
 }
 
 // What `decode` or `decode_self` says.
-fn whole(framing: Framing, bytes: &[u8]) -> Said {
+fn whole(alloc: Global, framing: Framing, bytes: &[u8]) -> Result<String, Fail> {
     match framing {
         Framing::Whole => match decode(bytes) {
-            Ok(packet) => said(&packet),
-            Err(fault) => Err(fault),
+            Ok(packet) => said(alloc, &packet),
+            Err(fault) => fault_of(alloc, fault),
         },
         Framing::SelfDelimited => match decode_self(bytes) {
-            Ok(read) => said(&read.packet),
-            Err(fault) => Err(fault),
+            Ok(read) => said(alloc, &read.packet),
+            Err(fault) => fault_of(alloc, fault),
         },
     }
 }
 
 // What a feed says at the end.
-fn ended(feed: &mut Feed) -> Said {
+fn ended(alloc: Global, feed: &mut Feed) -> Result<String, Fail> {
     match feed.finish() {
-        Ok(()) => said(&feed.packet()),
-        Err(fault) => Err(fault),
+        Ok(()) => said(alloc, &feed.packet()),
+        Err(fault) => fault_of(alloc, fault),
     }
 }
 
 // What a feed says of the bytes in two pieces.
-fn cut(feed: &mut Feed, framing: Framing, first: &[u8], rest: &[u8]) -> Said {
+fn cut(
+    alloc: Global,
+    feed: &mut Feed,
+    framing: Framing,
+    first: &[u8],
+    rest: &[u8],
+) -> Result<String, Fail> {
     feed.reset(framing);
     let _ = feed.feed(first);
     let _ = feed.feed(rest);
-    ended(feed)
+    ended(alloc, feed)
 }
 
 // What a feed says of the bytes in pieces of `step` bytes.
-fn stepped(feed: &mut Feed, framing: Framing, bytes: &[u8], step: usize) -> Said {
+fn stepped(
+    alloc: Global,
+    feed: &mut Feed,
+    framing: Framing,
+    bytes: &[u8],
+    step: usize,
+) -> Result<String, Fail> {
     feed.reset(framing);
     let mut rest = bytes;
     for _ in 0..bytes.len() {
@@ -64,7 +75,7 @@ fn stepped(feed: &mut Feed, framing: Framing, bytes: &[u8], step: usize) -> Said
         }
     }
     let _ = feed.feed(rest);
-    ended(feed)
+    ended(alloc, feed)
 }
 
 // The first bytes, and bytes from 0 on behind them.
@@ -76,45 +87,59 @@ fn filled(alloc: Global, front: &[u8], more: usize) -> Result<Vec<u8>, Fail> {
     Ok(bytes)
 }
 
+// The same of a text such as `FB 07 + 3`.
+fn bytes_in(alloc: Global, text: &str) -> Result<Vec<u8>, Fail> {
+    let (front, more) = text.split_once(" + ").ok_or("how many more is missing")?;
+    filled(alloc, &bytes_of(alloc, front)?, more.parse()?)
+}
+
 // The first bytes, and how many more there are.
-const ROWS: &[(&[u8], usize)] = &[
-    (&[], 0),
-    (&[0x08], 0),
-    (&[0xF8], 1275),
-    (&[0xF8], 1276),
-    (&[0xF8, 2, 0xAA, 0xBB, 0xF8, 0], 0),
-    (&[0xF9], 2550),
-    (&[0xF9, 0xAA, 0xBB, 0xCC], 0),
-    (&[0xFA], 0),
-    (&[0xFA, 0xFC], 0),
-    (&[0xFA, 2, 0xAA, 0xBB, 0xCC, 0xDD], 0),
-    (&[0xFA, 255, 255], 2550),
-    (&[0xFA, 255, 255], 2551),
-    (&[0xFB], 0),
-    (&[0xFB, 0], 3),
-    (&[0xFB, 7], 3),
-    (&[0xFB, 6], 6),
-    (&[0xFB, 0x41, 1, 2, 0xAA, 0xBB, 0], 0),
-    (&[0xFB, 0x41, 255, 0, 0xAA], 254),
-    (&[0xFB, 0x42, 5, 1, 0xAA, 0xBB, 1, 2, 3, 4], 0),
-    (&[0xFB, 0xC2, 2, 1, 0xAA, 0xBB, 0, 0], 0),
-    (&[0xFB, 0xC3, 3, 252, 1, 254, 0, 2, 0xAA, 0xBB], 511),
-    (&[0xFB, 0x83, 252, 0, 1, 7], 262),
-    (&[0x83, 0xB0], 47),
-    (&[0xFB, 0x81, 0xAA], 0),
-];
+const ROWS: &str = "\
+08 + 0
+ + 0
+F8 + 1275
+F8 + 1276
+F8 02 AA BB F8 00 + 0
+F9 + 2550
+F9 AA BB CC + 0
+FA + 0
+FA FC + 0
+FA 02 AA BB CC DD + 0
+FA FF FF + 2550
+FA FF FF + 2551
+FB + 0
+FB 00 + 3
+FB 07 + 3
+FB 06 + 6
+FB 41 01 02 AA BB 00 + 0
+FB 41 FF 00 AA + 254
+FB 42 05 01 AA BB 01 02 03 04 + 0
+FB C2 02 01 AA BB 00 00 + 0
+FB C3 03 FC 01 FE 00 02 AA BB + 511
+FB 83 FC 00 01 07 + 262
+83 B0 + 47
+FB 81 AA + 0
+";
+
+const STEPS: &[usize] = &[1, 2, 3, 7, 1000];
 
 // Whether each cut of the bytes gives what is said of them whole.
-fn each_cut_agrees(feed: &mut Feed, framing: Framing, bytes: &[u8]) -> bool {
-    let want = whole(framing, bytes);
+fn each_cut_agrees(
+    alloc: Global,
+    feed: &mut Feed,
+    framing: Framing,
+    bytes: &[u8],
+) -> Result<bool, Fail> {
+    let want = whole(alloc, framing, bytes)?;
     let mut agrees = true;
-    for step in [1, 2, 3, 7, 1000] {
-        agrees &= stepped(feed, framing, bytes, step) == want;
+    for step in STEPS {
+        agrees &= stepped(alloc, feed, framing, bytes, *step)?.as_str() == want.as_str();
     }
     for at in 0..bytes.len() {
-        agrees &= cut(feed, framing, &bytes[..at], &bytes[at..]) == want;
+        let told = cut(alloc, feed, framing, &bytes[..at], &bytes[at..])?;
+        agrees &= told.as_str() == want.as_str();
     }
-    agrees
+    Ok(agrees)
 }
 
 const CHOICES: &[(Framing, Padding)] = &[
@@ -125,130 +150,125 @@ const CHOICES: &[(Framing, Padding)] = &[
 ];
 
 // Whether each cut of each row agrees, in one feed.
-fn is_said(
-    alloc: Global,
-    feed: &mut Feed,
-    framing: Framing,
-    row: &(&[u8], usize),
-) -> Result<bool, Fail> {
-    let bytes = filled(alloc, row.0, row.1)?;
-    Ok(each_cut_agrees(feed, framing, &bytes))
+fn is_said(alloc: Global, feed: &mut Feed, framing: Framing, row: &str) -> Result<bool, Fail> {
+    each_cut_agrees(alloc, feed, framing, &bytes_in(alloc, row)?)
 }
 
 #[test]
 fn each_cut_says_what_decode_says(rt: HostRuntime) -> Result<(), Fail> {
     for choice in CHOICES {
         let mut feed = Feed::new(rt.alloc(), choice.0, choice.1)?;
-        for row in ROWS {
+        for row in ROWS.lines() {
             assert!(rt;
                 is_said(rt.alloc(), &mut feed, choice.0, row)?,
-                "{row:?} {choice:?}"
+                "{row} {choice:?}"
             );
         }
     }
     Ok(())
 }
 
-/// What is done with a feed, and what is said then. A piece is its first bytes, and so many from 0 on behind them.
-#[derive(Clone, Copy, Debug)]
-enum Call {
-    Reset(Framing),
-    Feed(&'static [u8], usize, Step),
-    Finish(Result<(), Fault>),
-    Len(u64),
+// What is done with a feed, and what is said then. The very byte is refused that is too many, and none behind a packet
+// is taken.
+const CALLS: &str = "\
+feed F8 + 1275 = More
+feed  + 0 = More
+feed 09 + 0 = Refused(Fault { rule: R2, place: 1276 })
+feed 09 + 0 = Refused(Fault { rule: R2, place: 1276 })
+finish = Err(Fault { rule: R2, place: 1276 })
+len = 1276
+reset = SelfDelimited
+feed F8 02 AA + 0 = More
+feed BB F8 00 + 0 = Done(1)
+feed BB + 0 = Done(0)
+finish = Ok(())
+len = 4
+";
+
+// What a call says.
+fn answer(alloc: Global, feed: &mut Feed, call: &str) -> Result<String, Fail> {
+    match call {
+        "reset" => {
+            let framing = Framing::SelfDelimited;
+            feed.reset(framing);
+            Ok(format!(in alloc; "{framing:?}")?)
+        }
+        "finish" => {
+            let said = feed.finish();
+            Ok(format!(in alloc; "{said:?}")?)
+        }
+        "len" => Ok(format!(in alloc; "{}", feed.len())?),
+        _ => {
+            let piece = call.strip_prefix("feed ").ok_or("no such call")?;
+            let step = feed.feed(&bytes_in(alloc, piece)?);
+            Ok(format!(in alloc; "{step:?}")?)
+        }
+    }
 }
 
-const TOO_LONG: Fault = Fault {
-    rule: Rule::R2,
-    place: 1276,
-};
-
-// The very byte is refused that is too many, and none behind a packet is taken.
-const CALLS: &[Call] = &[
-    Call::Feed(&[0xF8], 1275, Step::More),
-    Call::Feed(&[], 0, Step::More),
-    Call::Feed(&[9], 0, Step::Refused(TOO_LONG)),
-    Call::Feed(&[9], 0, Step::Refused(TOO_LONG)),
-    Call::Finish(Err(TOO_LONG)),
-    Call::Len(1276),
-    Call::Reset(Framing::SelfDelimited),
-    Call::Feed(&[0xF8, 2, 0xAA], 0, Step::More),
-    Call::Feed(&[0xBB, 0xF8, 0], 0, Step::Done(1)),
-    Call::Feed(&[0xBB], 0, Step::Done(0)),
-    Call::Finish(Ok(())),
-    Call::Len(4),
-];
-
-fn is_done(alloc: Global, feed: &mut Feed, call: Call) -> Result<bool, Fail> {
-    match call {
-        Call::Reset(framing) => {
-            feed.reset(framing);
-            Ok(true)
-        }
-        Call::Feed(front, more, step) => Ok(feed.feed(&filled(alloc, front, more)?) == step),
-        Call::Finish(said) => Ok(feed.finish() == said),
-        Call::Len(len) => Ok(feed.len() == len),
-    }
+fn is_done(alloc: Global, feed: &mut Feed, row: &str) -> Result<bool, Fail> {
+    let (call, want) = row.split_once(" = ").ok_or("a row has two parts")?;
+    Ok(answer(alloc, feed, call)?.as_str() == want)
 }
 
 #[test]
 fn calls_have_their_answers(rt: HostRuntime) -> Result<(), Fail> {
     let mut feed = Feed::new(rt.alloc(), Framing::Whole, Padding::Drop)?;
-    for call in CALLS {
-        assert!(rt; is_done(rt.alloc(), &mut feed, *call)?, "{call:?}");
+    for row in CALLS.lines() {
+        assert!(rt; is_done(rt.alloc(), &mut feed, row)?, "{row}");
     }
     Ok(())
 }
 
-// The bytes 255 of a padding length, its last byte, how many padding bytes it tells, and how many are dropped and kept.
-type Padded = (usize, u8, usize, (u32, usize));
+// The bytes 255 of a padding length, its last byte and how many padding bytes it tells; how many are dropped and kept.
+const PADDINGS: &str = "\
+0 0 0 = 0 0
+0 1 1 = 0 1
+258 3 65535 = 0 65535
+258 4 65536 = 65536 0
+";
 
-const PADDINGS: &[Padded] = &[
-    (0, 0, 0, (0, 0)),
-    (0, 1, 1, (0, 1)),
-    (258, 3, 65_535, (0, 65_535)),
-    (258, 4, 65_536, (65_536, 0)),
-];
-
-fn padded(alloc: Global, row: &Padded) -> Result<Vec<u8>, Fail> {
+fn padded(alloc: Global, text: &str) -> Result<Vec<u8>, Fail> {
+    let mut words = text.split(' ');
+    let full = words.next().ok_or("a count is missing")?.parse::<usize>()?;
+    let last = words.next().ok_or("a last byte is missing")?.parse::<u8>()?;
+    let padding = words.next().ok_or("a total is missing")?.parse::<usize>()?;
     let mut bytes = Vec::from_slice(alloc, &[0xFB, 0x41])?;
-    for _ in 0..row.0 {
-        bytes.push(255)?;
-    }
-    bytes.extend_from_slice(&[row.1, 0xAA])?;
-    for _ in 0..row.2 {
-        bytes.push(7)?;
-    }
+    bytes.resize(full.saturating_add(2), 255)?;
+    bytes.extend_from_slice(&[last, 0xAA])?;
+    bytes.resize(bytes.len().saturating_add(padding), 7)?;
     Ok(bytes)
 }
 
 // How many padding bytes of a packet are dropped, and how many are kept.
-fn tail(packet: &Packet<'_>) -> (u32, usize) {
+fn tail(alloc: Global, packet: &Packet<'_>) -> Result<String, Fail> {
     match packet.tail() {
-        Tail::Bytes(bytes) => (0, bytes.len()),
-        Tail::Dropped(count) => (count, 0),
+        Tail::Bytes(bytes) => Ok(format!(in alloc; "0 {}", bytes.len())?),
+        Tail::Dropped(count) => Ok(format!(in alloc; "{count} 0")?),
     }
 }
 
-fn has_tail(feed: &Feed, want: (u32, usize)) -> bool {
+fn has_tail(alloc: Global, feed: &Feed, want: &str) -> Result<bool, Fail> {
     if !feed.is_done() {
-        return false;
+        return Ok(false);
     }
     let packet = feed.packet();
-    tail(&packet) == want && packet.body() == [0xAA].as_slice()
+    let told = tail(alloc, &packet)?;
+    Ok(told.as_str() == want && packet.body() == [0xAA].as_slice())
 }
 
-fn is_kept(alloc: Global, feed: &mut Feed, row: &Padded) -> Result<bool, Fail> {
+fn is_kept(alloc: Global, feed: &mut Feed, row: &str) -> Result<bool, Fail> {
+    let (text, want) = row.split_once(" = ").ok_or("a row has two parts")?;
     feed.reset(Framing::Whole);
-    let more = feed.feed(&padded(alloc, row)?) == Step::More;
-    Ok(more && feed.finish() == Ok(()) && has_tail(feed, row.3))
+    let more = matches!(feed.feed(&padded(alloc, text)?), Step::More);
+    Ok(more && feed.finish().is_ok() && has_tail(alloc, feed, want)?)
 }
 
 #[test]
 fn a_tail_of_65535_bytes_is_kept(rt: HostRuntime) -> Result<(), Fail> {
     let mut feed = Feed::new(rt.alloc(), Framing::Whole, Padding::Keep)?;
-    for row in PADDINGS {
-        assert!(rt; is_kept(rt.alloc(), &mut feed, row)?, "{row:?}");
+    for row in PADDINGS.lines() {
+        assert!(rt; is_kept(rt.alloc(), &mut feed, row)?, "{row}");
     }
     Ok(())
 }
@@ -257,7 +277,7 @@ fn a_tail_of_65535_bytes_is_kept(rt: HostRuntime) -> Result<(), Fail> {
 fn fed(feed: &mut Feed, piece: &[u8], times: u32) -> (bool, usize) {
     let (mut more, mut most) = (true, 0);
     for _ in 0..times {
-        more &= feed.feed(piece) == Step::More;
+        more &= matches!(feed.feed(piece), Step::More);
         most = feed.held().max(most);
     }
     (more, most)
@@ -271,16 +291,17 @@ fn the_longest_padding_needs_little_memory(alloc: Global) -> Result<bool, Fail> 
         && fed(&mut feed, &[254, 0xAA], 1).0;
     let (zeros, most) = fed(&mut feed, &[0; 1000], 16_711);
     let rest = fed(&mut feed, &[0; 422], 1).0;
-    let read = length && zeros && rest && feed.finish() == Ok(());
-    Ok(read && (feed.len(), most) == (16_777_218, 1275))
+    let read = length && zeros && rest && feed.finish().is_ok();
+    Ok(read && feed.len() == 16_777_218 && most == 1275)
 }
 
 fn holds_48_frames_of_1275_bytes(alloc: Global) -> Result<bool, Fail> {
     let framing = Framing::SelfDelimited;
     let mut feed = Feed::new(alloc, framing, Padding::Drop)?;
     let bytes = filled(alloc, &[0x83, 0x30, 255, 255], 61_200)?;
-    let same = stepped(&mut feed, framing, &bytes, 1000) == whole(framing, &bytes);
-    Ok(same && feed.held() == 61_200)
+    let told = stepped(alloc, &mut feed, framing, &bytes, 1000)?;
+    let want = whole(alloc, framing, &bytes)?;
+    Ok(told.as_str() == want.as_str() && feed.held() == 61_200)
 }
 
 #[test]

@@ -1,199 +1,164 @@
 //! Heads with their answers, faults and routes.
-use opus_head::{Head, HeadFault, Route, Table, read_head, route, write_head};
-use std::alloc::{AllocError, Global};
+use crate::table::bytes_of;
+use opus_head::{Head, Route, Table, read_head, route, write_head};
+use std::alloc::Global;
 use std::test::Fail;
 
 const STEREO: &[u8] = b"OpusHead\x01\x02\x38\x01\x80\xBB\x00\x00\x00\x00\x00";
 
 // Version, channel count, family, what stands behind it, and the fault with its place.
-type Row = (u8, u8, u8, &'static [u8], Option<(HeadFault, u64)>);
+const ROWS: &str = "\
+# A byte more is refused in version 1 alone.
+0 1 0 | 07 = reads
+1 1 0 | 07 = Extra at 19
+2 1 0 | 07 = reads
+3 1 0 | 07 = reads
+4 1 0 | 07 = reads
+5 1 0 | 07 = reads
+6 1 0 | 07 = reads
+7 1 0 | 07 = reads
+8 1 0 | 07 = reads
+9 1 0 | 07 = reads
+10 1 0 | 07 = reads
+11 1 0 | 07 = reads
+12 1 0 | 07 = reads
+13 1 0 | 07 = reads
+14 1 0 | 07 = reads
+15 1 0 | 07 = reads
+16 1 0 | 07 = Version at 8
+# A family takes some channel counts.
+1 0 0 |  = Channels at 9
+1 3 0 |  = Channels at 9
+1 8 1 | 08 00 00 01 02 03 04 05 06 07 = reads
+1 9 1 |  = Channels at 9
+1 2 2 |  = Channels at 9
+1 5 2 |  = Channels at 9
+1 4 2 | 04 00 00 01 02 03 = reads
+1 227 3 | 01 00 09 = Cut(22) at 22
+1 228 3 | 01 00 = Channels at 9
+# Faults behind the family.
+1 1 255 |  = Cut(19) at 19
+1 1 255 | 00 = Streams at 19
+1 1 255 | 01 = Cut(20) at 20
+1 1 255 | 01 02 = Coupled at 20
+1 1 255 | 80 7F = Cut(21) at 21
+1 1 255 | 80 80 = Coupled at 20
+1 1 255 | 80 7F FE = reads
+1 6 1 | 04 02 00 04 01 02 03 05 = reads
+1 6 1 | 04 02 00 04 01 02 03 06 = MapByte(5) at 26
+1 6 1 | 04 02 00 04 01 02 03 FF = reads
+1 1 3 | 01 00 FF 7F = reads
+1 1 3 | 01 00 FF 7F 00 = Extra at 23
+1 1 200 | 01 00 00 00 = Extra at 22
+";
 
-const ROWS: &[Row] = &[
-    // A byte more is refused in version 1 alone.
-    (0, 1, 0, &[7], None),
-    (1, 1, 0, &[7], Some((HeadFault::Extra, 19))),
-    (2, 1, 0, &[7], None),
-    (3, 1, 0, &[7], None),
-    (4, 1, 0, &[7], None),
-    (5, 1, 0, &[7], None),
-    (6, 1, 0, &[7], None),
-    (7, 1, 0, &[7], None),
-    (8, 1, 0, &[7], None),
-    (9, 1, 0, &[7], None),
-    (10, 1, 0, &[7], None),
-    (11, 1, 0, &[7], None),
-    (12, 1, 0, &[7], None),
-    (13, 1, 0, &[7], None),
-    (14, 1, 0, &[7], None),
-    (15, 1, 0, &[7], None),
-    (16, 1, 0, &[7], Some((HeadFault::Version, 8))),
-    // A family takes some channel counts.
-    (1, 0, 0, &[], Some((HeadFault::Channels, 9))),
-    (1, 3, 0, &[], Some((HeadFault::Channels, 9))),
-    (1, 8, 1, &[8, 0, 0, 1, 2, 3, 4, 5, 6, 7], None),
-    (1, 9, 1, &[], Some((HeadFault::Channels, 9))),
-    (1, 2, 2, &[], Some((HeadFault::Channels, 9))),
-    (1, 5, 2, &[], Some((HeadFault::Channels, 9))),
-    (1, 4, 2, &[4, 0, 0, 1, 2, 3], None),
-    (1, 227, 3, &[1, 0, 9], Some((HeadFault::Cut(22), 22))),
-    (1, 228, 3, &[1, 0], Some((HeadFault::Channels, 9))),
-    // Faults behind the family.
-    (1, 1, 255, &[], Some((HeadFault::Cut(19), 19))),
-    (1, 1, 255, &[0], Some((HeadFault::Streams, 19))),
-    (1, 1, 255, &[1], Some((HeadFault::Cut(20), 20))),
-    (1, 1, 255, &[1, 2], Some((HeadFault::Coupled, 20))),
-    (1, 1, 255, &[128, 127], Some((HeadFault::Cut(21), 21))),
-    (1, 1, 255, &[128, 128], Some((HeadFault::Coupled, 20))),
-    (1, 1, 255, &[128, 127, 254], None),
-    (1, 6, 1, &[4, 2, 0, 4, 1, 2, 3, 5], None),
-    (
-        1,
-        6,
-        1,
-        &[4, 2, 0, 4, 1, 2, 3, 6],
-        Some((HeadFault::MapByte(5), 26)),
-    ),
-    (1, 6, 1, &[4, 2, 0, 4, 1, 2, 3, 255], None),
-    (1, 1, 3, &[1, 0, 0xFF, 0x7F], None),
-    (
-        1,
-        1,
-        3,
-        &[1, 0, 0xFF, 0x7F, 0],
-        Some((HeadFault::Extra, 23)),
-    ),
-    (1, 1, 200, &[1, 0, 0, 0], Some((HeadFault::Extra, 22))),
-];
-
-fn fault_of(alloc: Global, bytes: &[u8]) -> Option<(HeadFault, u64)> {
+fn fault_of(alloc: Global, bytes: &[u8]) -> Result<String, Fail> {
     match read_head(alloc, bytes) {
-        Ok(_) => None,
-        Err(fault) => Some((fault, fault.place(bytes))),
+        Ok(_) => Ok(String::from_str(alloc, "reads")?),
+        Err(fault) => {
+            let place = fault.place(bytes);
+            Ok(format!(in alloc; "{fault:?} at {place}")?)
+        }
     }
 }
 
 // A head of a row's columns.
-fn head_of(alloc: Global, row: &Row) -> Result<Vec<u8>, AllocError> {
+fn head_of(alloc: Global, text: &str) -> Result<Vec<u8>, Fail> {
+    let (numbers, hex) = text
+        .split_once(" | ")
+        .ok_or("what stands behind is missing")?;
+    let mut numbers = numbers.split(' ');
     let mut bytes = Vec::from_slice(alloc, b"OpusHead")?;
-    bytes.push(row.0)?;
-    bytes.push(row.1)?;
+    bytes.push(numbers.next().ok_or("a version is missing")?.parse()?)?;
+    bytes.push(numbers.next().ok_or("a channel count is missing")?.parse()?)?;
     bytes.extend_from_slice(&[0; 8])?;
-    bytes.push(row.2)?;
-    bytes.extend_from_slice(row.3)?;
+    bytes.push(numbers.next().ok_or("a family is missing")?.parse()?)?;
+    bytes.extend_from_slice(&bytes_of(alloc, hex)?)?;
     Ok(bytes)
 }
 
-fn has_fault(alloc: Global, row: &Row) -> Result<bool, AllocError> {
-    Ok(fault_of(alloc, &head_of(alloc, row)?) == row.4)
+fn has_fault(alloc: Global, row: &str) -> Result<bool, Fail> {
+    let (text, want) = row.split_once(" = ").ok_or("a row has two parts")?;
+    let bytes = head_of(alloc, text)?;
+    Ok(fault_of(alloc, &bytes)?.as_str() == want)
 }
 
 // Each front of a head is cut.
-fn is_cut(alloc: Global, size: usize) -> bool {
-    match STEREO.get(..size) {
-        Some(front) => {
-            fault_of(alloc, front) == Some((HeadFault::Cut(size as u64), size as u64))
-        }
-        None => false,
-    }
+fn is_cut(alloc: Global, size: usize) -> Result<bool, Fail> {
+    let front = STEREO.get(..size).ok_or("a front is shorter")?;
+    let want = format!(in alloc; "Cut({size}) at {size}")?;
+    Ok(fault_of(alloc, front)?.as_str() == want.as_str())
 }
 
 #[test]
 fn faults_have_their_places(rt: HostRuntime) -> Result<(), Fail> {
-    for row in ROWS {
-        assert!(rt; has_fault(rt.alloc(), row)?, "{row:?}");
+    for row in ROWS.lines() {
+        if !row.starts_with('#') {
+            assert!(rt; has_fault(rt.alloc(), row)?, "{row}");
+        }
     }
     for size in 0..19 {
-        assert!(rt; is_cut(rt.alloc(), size), "{size}");
+        assert!(rt; is_cut(rt.alloc(), size)?, "{size}");
     }
-    let magic = fault_of(rt.alloc(), b"OpusTags");
-    assert_eq!(rt; magic, Some((HeadFault::Magic(4), 4)));
+    let magic = fault_of(rt.alloc(), b"OpusTags")?;
+    assert_eq!(rt; magic.as_str(), "Magic(4) at 4");
     Ok(())
 }
 
-// Version, channels, pre-skip, rate, gain, family, streams and coupled ones.
-type Fields = (u8, u8, u16, u32, i16, u8, u8, u8);
+// A head's bytes; version, channels, pre-skip, rate, gain, family, streams and coupled ones; the route of each channel,
+// all factors of the matrix, and the extra bytes. This head is also made.
+const SIMPLE: &str = "4F707573 48656164 01 02 3801 80BB0000 0000 00 = \
+1 2 312 48000 0 0 1 1 | [Left { stream: 0 }, Right { stream: 0 }] | [] | []";
 
-// A head's bytes, its fields, the route of each channel, all factors of the matrix, and the extra bytes.
-type Read = (
-    &'static [u8],
-    Fields,
-    &'static [Route],
-    &'static [i16],
-    &'static [u8],
-);
+const HEADS: &str = "\
+4F707573 48656164 01 06 0000 00000000 0000 01 04 02 00 04 01 02 FF 05 = \
+1 6 0 0 0 1 4 2 | [Left { stream: 0 }, Mono { stream: 2 }, Right { stream: 0 }, \
+Left { stream: 1 }, Silence, Mono { stream: 3 }] | [] | []
+4F707573 48656164 02 01 0000 00000000 0000 03 02 00 FF7F 0080 09 = \
+2 1 0 0 0 3 2 0 | [Matrix] | [32767, -32768] | [9]
+";
 
-// The head that is also made.
-const SIMPLE: Read = (
-    STEREO,
-    (1, 2, 312, 48_000, 0, 0, 1, 1),
-    &[Route::Left { stream: 0 }, Route::Right { stream: 0 }],
-    &[],
-    &[],
-);
-
-const HEADS: &[Read] = &[
-    SIMPLE,
-    (
-        b"OpusHead\x01\x06\0\0\0\0\0\0\0\0\x01\x04\x02\x00\x04\x01\x02\xFF\x05",
-        (1, 6, 0, 0, 0, 1, 4, 2),
-        &[
-            Route::Left { stream: 0 },
-            Route::Mono { stream: 2 },
-            Route::Right { stream: 0 },
-            Route::Left { stream: 1 },
-            Route::Silence,
-            Route::Mono { stream: 3 },
-        ],
-        &[],
-        &[],
-    ),
-    (
-        b"OpusHead\x02\x01\0\0\0\0\0\0\0\0\x03\x02\x00\xFF\x7F\x00\x80\x09",
-        (2, 1, 0, 0, 0, 3, 2, 0),
-        &[Route::Matrix],
-        &[32_767, -32_768],
-        &[9],
-    ),
-];
-
-fn fields(head: &Head) -> Fields {
-    (
-        head.version(),
-        head.channels(),
-        head.pre_skip(),
-        head.rate(),
-        head.gain(),
-        head.family(),
-        head.streams(),
-        head.coupled(),
-    )
+fn fields(alloc: Global, head: &Head) -> Result<String, Fail> {
+    let (version, channels, pre_skip) = (head.version(), head.channels(), head.pre_skip());
+    let (rate, gain, family) = (head.rate(), head.gain(), head.family());
+    let (streams, coupled) = (head.streams(), head.coupled());
+    Ok(format!(in alloc;
+        "{version} {channels} {pre_skip} {rate} {gain} {family} {streams} {coupled}"
+    )?)
 }
 
-// Whether these are the routes of all channels.
-fn has_routes(head: &Head, routes: &[Route]) -> bool {
-    let mut same = routes.len() == usize::from(head.channels());
+// The routes of all channels.
+fn routes(alloc: Global, head: &Head) -> Result<Vec<Route>, Fail> {
+    let mut routes = Vec::new(alloc);
     for channel in 0..head.channels() {
-        same = same && routes.get(usize::from(channel)) == Some(&route(head, channel));
+        routes.push(route(head, channel))?;
     }
-    same
+    Ok(routes)
 }
 
-// Whether these are all factors of the matrix, and none where there is no matrix.
-fn has_factors(head: &Head, factors: &[i16]) -> bool {
-    let mut count = 0;
-    let mut same = true;
+// All factors of the matrix, and none where there is no matrix.
+fn factors(alloc: Global, head: &Head) -> Result<Vec<i16>, Fail> {
+    let mut factors = Vec::new(alloc);
     if let Table::Matrix {
         streams,
         coupled,
         ..
     } = head.table()
     {
-        count = (usize::from(*streams) + usize::from(*coupled)) * usize::from(head.channels());
+        let count = (usize::from(*streams) + usize::from(*coupled)) * usize::from(head.channels());
         for i in 0..count {
-            same = same && factors.get(i) == Some(&head.entry(i));
+            factors.push(head.entry(i))?;
         }
     }
-    same && factors.len() == count
+    Ok(factors)
+}
+
+fn told(alloc: Global, head: &Head) -> Result<String, Fail> {
+    let fields = fields(alloc, head)?;
+    let routes = routes(alloc, head)?;
+    let factors = factors(alloc, head)?;
+    let extra = head.extra();
+    Ok(format!(in alloc; "{fields} | {routes:?} | {factors:?} | {extra:?}")?)
 }
 
 // Family 0, and no other one here, has no table.
@@ -206,30 +171,30 @@ fn has_table(head: &Head) -> bool {
 
 fn is_written(alloc: Global, head: &Head, bytes: &[u8]) -> bool {
     let mut out = Vec::new(alloc);
-    write_head(head, &mut out) == Ok(()) && out.as_slice() == bytes
+    write_head(head, &mut out).is_ok() && out.as_slice() == bytes
 }
 
-fn is_head(alloc: Global, head: &Head, row: &Read) -> bool {
-    fields(head) == row.1
-        && has_table(head)
-        && has_routes(head, row.2)
-        && has_factors(head, row.3)
-        && head.extra() == row.4
-        && is_written(alloc, head, row.0)
+fn is_head(alloc: Global, head: &Head, row: &str) -> Result<bool, Fail> {
+    let (hex, want) = row.split_once(" = ").ok_or("a row has two parts")?;
+    let written = is_written(alloc, head, &bytes_of(alloc, hex)?);
+    Ok(written && has_table(head) && told(alloc, head)?.as_str() == want)
 }
 
-fn is_read(alloc: Global, row: &Read) -> bool {
-    match read_head(alloc, row.0) {
+fn is_read(alloc: Global, row: &str) -> Result<bool, Fail> {
+    let (hex, _) = row.split_once(" = ").ok_or("a row has two parts")?;
+    match read_head(alloc, &bytes_of(alloc, hex)?) {
         Ok(head) => is_head(alloc, &head, row),
-        Err(_) => false,
+        Err(_) => Ok(false),
     }
 }
 
 #[test]
-fn heads_are_read_and_written(rt: HostRuntime) {
-    for row in HEADS {
-        assert!(rt; is_read(rt.alloc(), row), "{row:?}");
+fn heads_are_read_and_written(rt: HostRuntime) -> Result<(), Fail> {
+    assert!(rt; is_read(rt.alloc(), SIMPLE)?);
+    for row in HEADS.lines() {
+        assert!(rt; is_read(rt.alloc(), row)?, "{row}");
     }
     let simple = Head::simple(rt.alloc(), 2, 312, 48_000, 0);
-    assert!(rt; is_head(rt.alloc(), &simple, &SIMPLE));
+    assert!(rt; is_head(rt.alloc(), &simple, SIMPLE)?);
+    Ok(())
 }

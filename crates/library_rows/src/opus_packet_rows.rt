@@ -1,77 +1,92 @@
 //! Packets with their answers.
+use crate::table::bytes_of;
 use opus_packet::{Held, Packet, Rule, Tail, decode};
 use std::alloc::{AllocError, Global};
 use std::test::Fail;
 
-// What `decode` says: the frames' count, code, VBR and padding total; or the rule and the place.
-type Said = Result<(usize, u8, bool, u32), (Rule, u64)>;
+// Bytes, the last ones so often if a count stands before them, and what `decode` says of them all.
+const ROWS: &str = "\
+# Codes 0 to 2.
+ = R1 at 0
+08 = frames 1 code 0 vbr false pad 0
+F8 + 1275 * 00 = frames 1 code 0 vbr false pad 0
+F8 + 1276 * 00 = R2 at 1276
+F9 = frames 2 code 1 vbr false pad 0
+F9 AA = R3 at 2
+F9 + 2550 * 00 = frames 2 code 1 vbr false pad 0
+F9 + 2551 * 00 = R2 at 2551
+FA = R4 at 1
+FA FC = R4 at 2
+FA 05 AA = R4 at 3
+FA 00 = frames 2 code 2 vbr false pad 0
+FA FB + 251 * 00 = frames 2 code 2 vbr false pad 0
+FA FC 00 + 252 * 00 = frames 2 code 2 vbr false pad 0
+FA FF FF + 1274 * 00 = R4 at 1277
+FA FF FF + 2550 * 00 = frames 2 code 2 vbr false pad 0
+FA FF FF + 2551 * 00 = R2 at 2553
+# Code 3.
+FB = R6 at 1
+FB 01 + 1276 * 00 = R2 at 1277
+FB 02 AA = R6 at 3
+FB 42 = R6 at 2
+FB 41 05 00 = R6 at 4
+FB 82 = R7 at 2
+FB 82 FC = R7 at 3
+FB 82 03 AA = R7 at 4
+FB 82 FF FF + 2551 * 00 = R2 at 2554
+83 B0 + 46 * 00 = R7 at 48
+83 B0 + 47 * 00 = frames 48 code 3 vbr true pad 0
+FB C2 02 01 AA BB + 2 * 00 = frames 2 code 3 vbr true pad 3
+FB C2 FF = R7 at 3
+FB 41 00 = frames 1 code 3 vbr false pad 1
+FB 41 FD AA + 253 * 00 = frames 1 code 3 vbr false pad 254
+FB 41 FE AA + 254 * 00 = frames 1 code 3 vbr false pad 255
+FB 41 FF 00 AA + 254 * 00 = frames 1 code 3 vbr false pad 256
+FB 41 + 65792 * FF = R6 at 65794
+FB 41 + 65793 * FF = PadLimit at 65794
+";
 
-// The first bytes, what fills the rest, how often it stands there, and what is said of all these bytes.
-type Row = (&'static [u8], u8, usize, Said);
-
-const ROWS: &[Row] = &[
-    // Codes 0 to 2.
-    (&[], 0, 0, Err((Rule::R1, 0))),
-    (&[0x08], 0, 0, Ok((1, 0, false, 0))),
-    (&[0xF8], 0, 1275, Ok((1, 0, false, 0))),
-    (&[0xF8], 0, 1276, Err((Rule::R2, 1276))),
-    (&[0xF9], 0, 0, Ok((2, 1, false, 0))),
-    (&[0xF9, 0xAA], 0, 0, Err((Rule::R3, 2))),
-    (&[0xF9], 0, 2550, Ok((2, 1, false, 0))),
-    (&[0xF9], 0, 2551, Err((Rule::R2, 2551))),
-    (&[0xFA], 0, 0, Err((Rule::R4, 1))),
-    (&[0xFA, 0xFC], 0, 0, Err((Rule::R4, 2))),
-    (&[0xFA, 5, 0xAA], 0, 0, Err((Rule::R4, 3))),
-    (&[0xFA, 0], 0, 0, Ok((2, 2, false, 0))),
-    (&[0xFA, 251], 0, 251, Ok((2, 2, false, 0))),
-    (&[0xFA, 252, 0], 0, 252, Ok((2, 2, false, 0))),
-    (&[0xFA, 255, 255], 0, 1274, Err((Rule::R4, 1277))),
-    (&[0xFA, 255, 255], 0, 2550, Ok((2, 2, false, 0))),
-    (&[0xFA, 255, 255], 0, 2551, Err((Rule::R2, 2553))),
-    // Code 3.
-    (&[0xFB], 0, 0, Err((Rule::R6, 1))),
-    (&[0xFB, 1], 0, 1276, Err((Rule::R2, 1277))),
-    (&[0xFB, 2, 0xAA], 0, 0, Err((Rule::R6, 3))),
-    (&[0xFB, 0x42], 0, 0, Err((Rule::R6, 2))),
-    (&[0xFB, 0x41, 5, 0], 0, 0, Err((Rule::R6, 4))),
-    (&[0xFB, 0x82], 0, 0, Err((Rule::R7, 2))),
-    (&[0xFB, 0x82, 0xFC], 0, 0, Err((Rule::R7, 3))),
-    (&[0xFB, 0x82, 3, 0xAA], 0, 0, Err((Rule::R7, 4))),
-    (&[0xFB, 0x82, 255, 255], 0, 2551, Err((Rule::R2, 2554))),
-    (&[0x83, 0xB0], 0, 46, Err((Rule::R7, 48))),
-    (&[0x83, 0xB0], 0, 47, Ok((48, 3, true, 0))),
-    (&[0xFB, 0xC2, 2, 1, 0xAA, 0xBB], 0, 2, Ok((2, 3, true, 3))),
-    (&[0xFB, 0xC2, 255], 0, 0, Err((Rule::R7, 3))),
-    (&[0xFB, 0x41, 0], 0, 0, Ok((1, 3, false, 1))),
-    (&[0xFB, 0x41, 253, 0xAA], 0, 253, Ok((1, 3, false, 254))),
-    (&[0xFB, 0x41, 254, 0xAA], 0, 254, Ok((1, 3, false, 255))),
-    (&[0xFB, 0x41, 255, 0, 0xAA], 0, 254, Ok((1, 3, false, 256))),
-    (&[0xFB, 0x41], 255, 65792, Err((Rule::R6, 65794))),
-    (&[0xFB, 0x41], 255, 65793, Err((Rule::PadLimit, 65794))),
-];
-
-fn said(bytes: &[u8]) -> Said {
+fn said(alloc: Global, bytes: &[u8]) -> Result<String, Fail> {
     match decode(bytes) {
         Ok(packet) => {
+            let frames = packet.frames().count();
             let shape = packet.shape();
-            Ok((packet.frames().count(), shape.code, shape.vbr, shape.pad))
+            let (code, vbr, pad) = (shape.code, shape.vbr, shape.pad);
+            Ok(format!(in alloc; "frames {frames} code {code} vbr {vbr} pad {pad}")?)
         }
-        Err(fault) => Err((fault.rule, fault.place)),
+        Err(fault) => {
+            let (rule, place) = (fault.rule, fault.place);
+            Ok(format!(in alloc; "{rule:?} at {place}")?)
+        }
     }
 }
 
-fn is_said(alloc: Global, row: &Row) -> Result<bool, AllocError> {
-    let mut bytes = Vec::from_slice(alloc, row.0)?;
-    for _ in 0..row.2 {
-        bytes.push(row.1)?;
+// The bytes of a text such as `FB 41 + 3 * FF`.
+fn filled(alloc: Global, text: &str) -> Result<Vec<u8>, Fail> {
+    let Some((front, rest)) = text.split_once(" + ") else {
+        return bytes_of(alloc, text);
+    };
+    let (count, piece) = rest.split_once(" * ").ok_or("a rest has a count")?;
+    let mut bytes = bytes_of(alloc, front)?;
+    let piece = bytes_of(alloc, piece)?;
+    for _ in 0..count.parse::<usize>()? {
+        bytes.extend_from_slice(&piece)?;
     }
-    Ok(said(&bytes) == row.3)
+    Ok(bytes)
+}
+
+fn is_said(alloc: Global, row: &str) -> Result<bool, Fail> {
+    let (text, want) = row.split_once(" = ").ok_or("a row has two parts")?;
+    let bytes = filled(alloc, text)?;
+    Ok(said(alloc, &bytes)?.as_str() == want)
 }
 
 #[test]
 fn packets_have_their_answers(rt: HostRuntime) -> Result<(), Fail> {
-    for row in ROWS {
-        assert!(rt; is_said(rt.alloc(), row)?, "{row:?}");
+    for row in ROWS.lines() {
+        if !row.starts_with('#') {
+            assert!(rt; is_said(rt.alloc(), row)?, "{row}");
+        }
     }
     Ok(())
 }
@@ -187,112 +202,91 @@ fn each_of_48_frames_is_found(rt: HostRuntime) -> Result<(), Fail> {
     Ok(())
 }
 
-// Code, VBR, padding total and size.
-type Spelling = (u8, bool, u32, u32);
+// A packet; code, VBR, padding total and size of a copy of its value, and of one with its padding bytes; these, and
+// the bytes in which the lengths of its frames but the last lie spelled.
+const COPIES: &str = "\
+F8 61 | 0 false 0 2 | 0 false 0 2 | [] | None
+F9 61 62 | 1 false 0 3 | 1 false 0 3 | [] | None
+FA 01 61 62 | 1 false 0 3 | 1 false 0 3 | [] | Some([1])
+FB 02 61 62 | 1 false 0 3 | 1 false 0 3 | [] | None
+FB 41 00 61 | 0 false 0 2 | 0 false 0 2 | [] | None
+FB 81 61 | 0 false 0 2 | 0 false 0 2 | [] | Some([])
+FB C2 02 01 61 62 11 22 | 1 false 0 3 | 3 false 3 7 | [17, 34] | Some([1])
+FB C2 01 00 61 62 09 | 2 false 0 4 | 3 true 2 7 | [9] | Some([0])
+FB C3 01 01 00 61 62 09 | 3 true 0 6 | 3 true 2 8 | [9] | Some([1, 0])
+";
 
-// A packet, how a copy of its value is spelled, how one with its padding bytes is, these, and the
-// bytes in which the lengths of its frames but the last lie spelled.
-type Copied = (
-    &'static [u8],
-    Spelling,
-    Spelling,
-    &'static [u8],
-    Option<&'static [u8]>,
-);
-
-const COPIES: &[Copied] = &[
-    (b"\xf8a", (0, false, 0, 2), (0, false, 0, 2), b"", None),
-    (b"\xf9ab", (1, false, 0, 3), (1, false, 0, 3), b"", None),
-    (
-        b"\xfa\x01ab",
-        (1, false, 0, 3),
-        (1, false, 0, 3),
-        b"",
-        Some(&[1]),
-    ),
-    (b"\xfb\x02ab", (1, false, 0, 3), (1, false, 0, 3), b"", None),
-    (
-        b"\xfb\x41\x00a",
-        (0, false, 0, 2),
-        (0, false, 0, 2),
-        b"",
-        None,
-    ),
-    (
-        b"\xfb\x81a",
-        (0, false, 0, 2),
-        (0, false, 0, 2),
-        b"",
-        Some(&[]),
-    ),
-    (
-        b"\xfb\xc2\x02\x01ab\x11\x22",
-        (1, false, 0, 3),
-        (3, false, 3, 7),
-        &[0x11, 0x22],
-        Some(&[1]),
-    ),
-    (
-        b"\xfb\xc2\x01\x00ab\x09",
-        (2, false, 0, 4),
-        (3, true, 2, 7),
-        &[9],
-        Some(&[0]),
-    ),
-    (
-        b"\xfb\xc3\x01\x01\x00ab\x09",
-        (3, true, 0, 6),
-        (3, true, 2, 8),
-        &[9],
-        Some(&[1, 0]),
-    ),
-];
-
-fn spelling(packet: &Packet<'_>) -> Spelling {
+fn spelling(alloc: Global, packet: &Packet<'_>) -> Result<String, Fail> {
     let shape = packet.shape();
-    (shape.code, shape.vbr, shape.pad, packet.size())
+    let (code, vbr, pad, size) = (shape.code, shape.vbr, shape.pad, packet.size());
+    Ok(format!(in alloc; "{code} {vbr} {pad} {size}")?)
 }
 
-fn tail_is(packet: &Packet<'_>, tail: &[u8]) -> bool {
+fn tail_is(alloc: Global, packet: &Packet<'_>, want: &str) -> Result<bool, Fail> {
     match packet.tail() {
-        Tail::Bytes(bytes) => bytes == tail,
-        Tail::Dropped(_) => false,
+        Tail::Bytes(bytes) => Ok(format!(in alloc; "{bytes:?}")?.as_str() == want),
+        Tail::Dropped(_) => Ok(false),
     }
 }
 
-fn is_copy(copy: &Packet<'_>, packet: &Packet<'_>, spelled: Spelling, tail: &[u8]) -> bool {
-    spelling(copy) == spelled
-        && copy.body() == packet.body()
-        && copy.count() == packet.count()
-        && copy.lens().spelled().is_none()
-        && tail_is(copy, tail)
+fn is_copy(
+    alloc: Global,
+    copy: &Packet<'_>,
+    packet: &Packet<'_>,
+    spelled: &str,
+) -> Result<bool, Fail> {
+    let same = copy.body() == packet.body() && copy.count() == packet.count();
+    let spelled = spelling(alloc, copy)?.as_str() == spelled;
+    Ok(same && spelled && copy.lens().spelled().is_none())
 }
 
-fn is_copied(alloc: Global, row: &Copied) -> Result<bool, Fail> {
-    let packet = decode(row.0)?;
-    let held = Held::copy(alloc, &packet)?;
-    Ok(
-        is_copy(&held.view(), &packet, row.1, &[])
-            && is_kept_copied(alloc, &packet, row)?
-            && tail_is(&packet, row.3)
-            && packet.lens().spelled() == row.4,
-    )
+fn is_plain_copied(alloc: Global, packet: &Packet<'_>, spelled: &str) -> Result<bool, Fail> {
+    let held = Held::copy(alloc, packet)?;
+    let copy = held.view();
+    Ok(is_copy(alloc, &copy, packet, spelled)? && tail_is(alloc, &copy, "[]")?)
 }
 
-fn is_kept_copied(alloc: Global, packet: &Packet<'_>, row: &Copied) -> Result<bool, Fail> {
+fn is_kept_copied(
+    alloc: Global,
+    packet: &Packet<'_>,
+    spelled: &str,
+    tail: &str,
+) -> Result<bool, Fail> {
     match packet.tail() {
         Tail::Bytes(_) => {
             let kept = Held::copy_kept(alloc, packet)?;
-            Ok(is_copy(&kept.view(), packet, row.2, row.3))
+            let copy = kept.view();
+            Ok(is_copy(alloc, &copy, packet, spelled)? && tail_is(alloc, &copy, tail)?)
         }
         Tail::Dropped(_) => Ok(false),
     }
 }
 
+fn has_lens(alloc: Global, packet: &Packet<'_>, want: &str) -> Result<bool, Fail> {
+    let lens = packet.lens().spelled();
+    Ok(format!(in alloc; "{lens:?}")?.as_str() == want)
+}
+
+fn is_copied(alloc: Global, row: &str) -> Result<bool, Fail> {
+    let mut columns = row.split(" | ");
+    let bytes = bytes_of(alloc, columns.next().ok_or("bytes are missing")?)?;
+    let plain = columns.next().ok_or("the copy is missing")?;
+    let kept = columns.next().ok_or("the kept copy is missing")?;
+    let tail = columns.next().ok_or("padding bytes are missing")?;
+    let lens = columns.next().ok_or("lengths are missing")?;
+    let packet = decode(&bytes)?;
+    Ok(
+        is_plain_copied(alloc, &packet, plain)?
+            && is_kept_copied(alloc, &packet, kept, tail)?
+            && tail_is(alloc, &packet, tail)?
+            && has_lens(alloc, &packet, lens)?,
+    )
+}
+
 #[test]
 fn copies_are_the_packets(rt: HostRuntime) -> Result<(), Fail> {
-    for row in COPIES {
-        assert!(rt; is_copied(rt.alloc(), row)?, "{row:?}");
+    for row in COPIES.lines() {
+        assert!(rt; is_copied(rt.alloc(), row)?, "{row}");
     }
     Ok(())
 }

@@ -1,47 +1,60 @@
 //! Self-delimited packets with their answers.
-use opus_packet::{Rule, Tail};
+use crate::table::bytes_of;
+use opus_packet::{Packet, Rule, Tail};
 use opus_self::decode_self;
 use std::alloc::{AllocError, Global};
 use std::test::Fail;
 
-// Bytes of the packet, and its padding bytes; or the rule and the place.
-type Said<'a> = Result<(usize, &'a [u8]), (Rule, u64)>;
+// Bytes whose frames are AA BB; bytes of the packet and its padding bytes, or the rule and the place.
+const ROWS: &str = "\
+F8 02 AA BB = used 4, padding []
+F8 02 AA BB F8 00 = used 4, padding []
+F9 01 AA BB CC = used 4, padding []
+FA 02 00 AA BB CC = used 5, padding []
+FB 02 01 AA BB = used 5, padding []
+FB 41 00 02 AA BB = used 6, padding []
+FB 41 01 02 AA BB 00 = used 7, padding [0]
+FB 41 02 02 AA BB 07 09 05 = used 8, padding [7, 9]
+FB C2 01 01 01 AA BB 03 04 = used 8, padding [3]
+ = Cut at 0
+F8 = Cut at 1
+F8 FC = Cut at 2
+F8 02 AA = Cut at 3
+FA 01 = Cut at 2
+FB = Cut at 1
+FB 41 = Cut at 2
+FB 41 01 02 AA BB = Cut at 6
+FB 00 = R5 at 1
+FB 07 00 00 = R5 at 1
+83 31 = R5 at 1
+";
 
-// Bytes whose frames are AA BB, and what is said of them.
-const ROWS: &[(&[u8], Said<'static>)] = &[
-    (&[0xF8, 2, 0xAA, 0xBB], Ok((4, &[]))),
-    (&[0xF8, 2, 0xAA, 0xBB, 0xF8, 0], Ok((4, &[]))),
-    (&[0xF9, 1, 0xAA, 0xBB, 0xCC], Ok((4, &[]))),
-    (&[0xFA, 2, 0, 0xAA, 0xBB, 0xCC], Ok((5, &[]))),
-    (&[0xFB, 2, 1, 0xAA, 0xBB], Ok((5, &[]))),
-    (&[0xFB, 0x41, 0, 2, 0xAA, 0xBB], Ok((6, &[]))),
-    (&[0xFB, 0x41, 1, 2, 0xAA, 0xBB, 0], Ok((7, &[0]))),
-    (&[0xFB, 0x41, 2, 2, 0xAA, 0xBB, 7, 9, 5], Ok((8, &[7, 9]))),
-    (&[0xFB, 0xC2, 1, 1, 1, 0xAA, 0xBB, 3, 4], Ok((8, &[3]))),
-    (&[], Err((Rule::Cut, 0))),
-    (&[0xF8], Err((Rule::Cut, 1))),
-    (&[0xF8, 0xFC], Err((Rule::Cut, 2))),
-    (&[0xF8, 2, 0xAA], Err((Rule::Cut, 3))),
-    (&[0xFA, 1], Err((Rule::Cut, 2))),
-    (&[0xFB], Err((Rule::Cut, 1))),
-    (&[0xFB, 0x41], Err((Rule::Cut, 2))),
-    (&[0xFB, 0x41, 1, 2, 0xAA, 0xBB], Err((Rule::Cut, 6))),
-    (&[0xFB, 0], Err((Rule::R5, 1))),
-    (&[0xFB, 7, 0, 0], Err((Rule::R5, 1))),
-    (&[0x83, 0x31], Err((Rule::R5, 1))),
-];
-
-// What is said of bytes, if the frames are AA BB and the packet has the size that was used.
-fn said(bytes: &[u8]) -> Option<Said<'_>> {
+// What is said of bytes.
+fn said(alloc: Global, bytes: &[u8]) -> Result<String, Fail> {
     match decode_self(bytes) {
-        Ok(read) => match read.packet.tail() {
-            Tail::Bytes(tail)
-                if read.packet.body() == [0xAA, 0xBB].as_slice()
-                    && read.packet.size() as usize == read.used => { Some(Ok((read.used, tail))) }
-            _ => None,
-        },
-        Err(fault) => Some(Err((fault.rule, fault.place))),
+        Ok(read) => read_of(alloc, &read.packet, read.used),
+        Err(fault) => {
+            let (rule, place) = (fault.rule, fault.place);
+            Ok(format!(in alloc; "{rule:?} at {place}")?)
+        }
     }
+}
+
+// What is said of a packet, if the frames are AA BB and it has the size that was used.
+fn read_of(alloc: Global, packet: &Packet<'_>, used: usize) -> Result<String, Fail> {
+    if packet.body() != [0xAA, 0xBB].as_slice() || packet.size() as usize != used {
+        return Ok(String::from_str(alloc, "other frames or size")?);
+    }
+    match packet.tail() {
+        Tail::Bytes(tail) => Ok(format!(in alloc; "used {used}, padding {tail:?}")?),
+        Tail::Dropped(count) => Ok(format!(in alloc; "used {used}, dropped {count}")?),
+    }
+}
+
+fn is_said(alloc: Global, row: &str) -> Result<bool, Fail> {
+    let (hex, want) = row.split_once(" = ").ok_or("a row has two parts")?;
+    let bytes = bytes_of(alloc, hex)?;
+    Ok(said(alloc, &bytes)?.as_str() == want)
 }
 
 // The bytes 255 of a padding length, its last byte, and the padding bytes that it tells: 254 for each 255.
@@ -95,8 +108,8 @@ fn is_past_the_limit(alloc: Global) -> Result<bool, AllocError> {
 
 #[test]
 fn one_packet_is_read_from_the_front(rt: HostRuntime) -> Result<(), Fail> {
-    for row in ROWS {
-        assert!(rt; said(row.0) == Some(row.1), "{row:?}");
+    for row in ROWS.lines() {
+        assert!(rt; is_said(rt.alloc(), row)?, "{row}");
     }
     for row in PADDINGS {
         assert!(rt; is_kept(rt.alloc(), row)?, "{row:?}");

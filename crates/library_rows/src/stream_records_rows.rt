@@ -5,12 +5,14 @@ mod raw;
 mod runs;
 mod stores;
 
-use job_loop::{Fed, Form};
+use crate::table::bytes_of;
+use job_loop::Form;
 use opus_feed::Padding;
-use opus_packet::{Fault, Rule};
+use opus_packet::Shape;
 use pack_records::Cut;
+use std::alloc::Global;
 use std::test::Fail;
-use stream_records::{StreamsFound, StreamsItem};
+use stream_records::{Spelling, StreamsItem};
 
 // The sizes of the pieces in which an input is fed.
 const STEPS: [usize; 3] = [1, 3, 4096];
@@ -20,142 +22,123 @@ const MOST: u64 = 1 << 20;
 
 const DROP: Padding = Padding::Drop;
 
-const KEEP: Padding = Padding::Keep;
-
-// How a stream is spelled: code, padding total, size, padding bytes that aren't kept.
-type Spelled = (u8, u32, u32, u32);
-
-// What a record holds: streams that are spelled so; nothing; a stream, its place and its fault, whose place counts from
-// there; or a stream of another length and its place.
-#[derive(Clone, Copy, Debug)]
-enum Held {
-    Packets(&'static [Spelled]),
-    Lost,
-    Broken(u8, u64, Rule, u64),
-    Unequal(u8, u64),
+// How many streams an input has, what becomes of padding bytes, and its bytes.
+#[derive(Drop)]
+struct Input {
+    streams: u8,
+    padding: Padding,
+    bytes: Vec<u8>,
 }
 
-// A record as it is wanted: where it starts and is decided, its range, what it holds, and the bytes lent with it.
-type Row = (u64, u64, u32, Held, &'static [u8]);
-
-// An input, its number of streams, what becomes of padding bytes, its records, and the place where it is cut.
-type Input<'a> = (&'a [u8], u8, Padding, &'a [Row], Option<u64>);
-
-// Two streams of 20 ms, the first with a padding byte.
-const PADDED: &[u8] = b"\xFB\x41\x01\x01\xAA\0\xFB\x01\xBB";
-
-// The same in the canonical form, and in the kept form.
-const PLAIN: &[u8] = b"\xF8\x01\xAA\xF8\xBB";
-
-const PADDED_KEPT: &[u8] = b"\xFB\x41\x01\x01\xAA\0\xF8\xBB";
-
-// The second stream lasts 10 ms.
-const UNEQUAL: &[u8] = b"\xF8\x01\xAA\xF0\xBB";
-
-// The streams are spelled so.
-fn are_spelled(item: &StreamsItem, spelled: &[Spelled]) -> bool {
-    let streams = item.streams.as_slice();
-    if streams.len() != spelled.len() {
-        return false;
-    }
-    for (stream, (code, pad, size, dropped)) in streams.iter().zip(spelled) {
-        let shape = stream.shape.code == *code && stream.shape.pad == *pad;
-        if !shape || stream.size != *size || stream.dropped != *dropped {
-            return false;
-        }
-    }
-    true
-}
-
-// What is found, and how the streams are spelled.
-fn found(held: Held) -> (StreamsFound, &'static [Spelled]) {
-    match held {
-        Held::Packets(spelled) => (StreamsFound::Packets, spelled),
-        Held::Lost => (StreamsFound::Lost, &[]),
-        Held::Broken(stream, start, rule, place) => {
-            let fault = Fault { rule, place };
-            (
-                StreamsFound::Broken {
-                    stream,
-                    start,
-                    fault,
-                },
-                &[],
-            )
-        }
-        Held::Unequal(stream, start) => (StreamsFound::Unequal { stream, start }, &[]),
+fn padding_of(word: &str) -> Result<Padding, Fail> {
+    match word {
+        "drop" => Ok(Padding::Drop),
+        "keep" => Ok(Padding::Keep),
+        _ => Err("padding is dropped or kept".into()),
     }
 }
 
-fn is_row(item: &StreamsItem, bytes: &[u8], row: Option<&Row>) -> bool {
-    match row {
-        Some((start, place, range, held, wanted)) => {
-            let places = item.start == *start && item.place == *place && item.range == *range;
-            let (found, spelled) = found(*held);
-            places && item.found == found && are_spelled(item, spelled) && bytes == *wanted
-        }
-        None => false,
-    }
+fn input_of(alloc: Global, columns: &str) -> Result<Input, Fail> {
+    let (choices, hex) = columns.split_once(" | ").ok_or("an input has bytes")?;
+    let (streams, padding) = choices.split_once(' ').ok_or("there are two choices")?;
+    Ok(Input {
+        streams: streams.parse::<u8>()?,
+        padding: padding_of(padding)?,
+        bytes: bytes_of(alloc, hex)?,
+    })
 }
 
-// Feeds a piece behind `at` bytes. What the form took, if the record that it decides is this row.
-fn feeds<F: Form<Record = StreamsItem, Cut = Cut>>(
+// Writes what a record holds and how each stream is spelled: code, padding total, size, padding bytes that aren't kept.
+fn tell_held(told: &mut String, item: &StreamsItem) -> Result<(), Fail> {
+    write!(told, "{:?}", item.found)?;
+    for stream in item.streams.as_slice() {
+        let Shape { code, pad, .. } = stream.shape;
+        let Spelling { size, dropped, .. } = *stream;
+        write!(told, " ({code}, {pad}, {size}, {dropped})")?;
+    }
+    Ok(())
+}
+
+// Writes a record: where it starts and is decided, its range, what it holds, and the bytes lent with it.
+fn tell(told: &mut String, item: &StreamsItem, bytes: &[u8]) -> Result<(), Fail> {
+    write!(told, "{} {} {} ", item.start, item.place, item.range)?;
+    tell_held(told, item)?;
+    for byte in bytes {
+        write!(told, " {byte:02X}")?;
+    }
+    told.push_str("; ")?;
+    Ok(())
+}
+
+// Feeds a piece behind `at` bytes, and writes the record that it decides. How many bytes the form took.
+fn feed<F: Form<Record = StreamsItem, Cut = Cut>>(
     form: &mut F,
     at: u64,
     piece: &[u8],
-    row: Option<&Row>,
-) -> Result<Option<Fed>, Fail> {
+    told: &mut String,
+) -> Result<usize, Fail> {
     if piece.is_empty() || piece.len() > 4096 || at > MOST {
-        return Ok(None);
+        return Err("no piece is so long or so far behind".into());
     }
     let fed = form.feed(at, piece)?;
     if fed.whole {
         let lent = form.record(&piece[..fed.count]);
-        if !is_row(lent.item(), lent.bytes(), row) {
-            return Ok(None);
-        }
+        tell(told, lent.item(), lent.bytes())?;
     }
-    Ok(Some(fed))
+    Ok(fed.count)
 }
 
-// The end of an input of `at` bytes is this cut, and decides these records.
-fn ends<F: Form<Record = StreamsItem, Cut = Cut>>(
+// Feeds the input in pieces of `step` bytes, and writes the records that they decide.
+fn feed_all<F: Form<Record = StreamsItem, Cut = Cut>>(
     form: &mut F,
-    at: u64,
-    rows: &[Row],
-    cut: Option<u64>,
-) -> bool {
-    let close = form.end(at.min(MOST));
-    let right = if close.whole {
-        let lent = form.record(&[]);
-        rows.len() == 1 && is_row(lent.item(), lent.bytes(), rows.first())
-    } else {
-        rows.is_empty()
-    };
-    right && close.cut.map(|cut| cut.place) == cut
-}
-
-// The form says just these records of the input in pieces of `step` bytes, and this cut.
-fn says<F: Form<Record = StreamsItem, Cut = Cut>>(
-    form: &mut F,
+    input: &[u8],
     step: usize,
-    row: &Input<'_>,
-) -> Result<bool, Fail> {
-    let mut rest = row.0;
-    let mut rows = row.3;
+    told: &mut String,
+) -> Result<(), Fail> {
+    let mut rest = input;
     let mut at: u64 = 0;
-    for _ in 0..row.0.len() {
-        let piece = rest.get(..step).unwrap_or(rest);
-        if !piece.is_empty() {
-            let Some(fed) = feeds(form, at, piece, rows.first())? else {
-                return Ok(false);
-            };
-            at = at.saturating_add(fed.count as u64);
-            rest = rest.get(fed.count..).unwrap_or(&[]);
-            if fed.whole {
-                rows = rows.get(1..).unwrap_or(&[]);
-            }
+    for _ in 0..input.len() {
+        if !rest.is_empty() {
+            let count = feed(form, at, rest.get(..step).unwrap_or(rest), told)?;
+            at = at.saturating_add(count as u64);
+            rest = rest.get(count..).unwrap_or(&[]);
         }
     }
-    Ok(rest.is_empty() && ends(form, at, rows, row.4))
+    if rest.is_empty() {
+        Ok(())
+    } else {
+        Err("a form takes all of its input".into())
+    }
+}
+
+// Writes the record that the end of an input of `count` bytes decides, and how it is cut, if it is.
+fn tell_end<F: Form<Record = StreamsItem, Cut = Cut>>(
+    form: &mut F,
+    count: usize,
+    told: &mut String,
+) -> Result<(), Fail> {
+    let close = form.end((count as u64).min(MOST));
+    if close.whole {
+        let lent = form.record(&[]);
+        tell(told, lent.item(), lent.bytes())?;
+    }
+    match close.cut {
+        Some(cut) => write!(told, "cut at {}", cut.place)?,
+        None => told.push_str("whole")?,
+    }
+    Ok(())
+}
+
+// The form says this of the input in pieces of `step` bytes.
+fn says<F: Form<Record = StreamsItem, Cut = Cut>>(
+    alloc: Global,
+    form: &mut F,
+    input: &[u8],
+    step: usize,
+    want: &str,
+) -> Result<bool, Fail> {
+    let mut told = String::new(alloc);
+    feed_all(form, input, step, &mut told)?;
+    tell_end(form, input.len(), &mut told)?;
+    Ok(told.as_str() == want)
 }

@@ -1,12 +1,13 @@
 //! Runs of a job that writes the packets of a capture and refuses it where it goes wrong or is cut.
 ghost use Rattle.dump_records.specs.Sample.{packets};
 
-use super::{CAPTURE, OPENING};
+use super::front_of;
+use crate::table::bytes_of;
 use dump_records::{DumpForm, Found, Item};
-use job_loop::{Ending, InputEnd, JobStop, Lent, RecordJob, run_job};
+use job_loop::{InputEnd, JobStop, Lent, RecordJob, run_job};
 use opus_io::{MemorySink, MemorySource, Sink, write_all};
 use rec_store::StoreFault;
-use std::alloc::{AllocError, Global};
+use std::alloc::Global;
 use std::test::Fail;
 
 #[derive(Drop)]
@@ -53,95 +54,87 @@ impl RecordJob<Item, StoreFault> for Packets {
     }
 }
 
-// How many bytes of a text an input begins with, that text, what stands behind them, and how many sevens at the end;
-// the steps of its source, the read that fails, how the job ends, and how many bytes it wrote.
-type Row = (
-    usize,
-    &'static [u8],
-    &'static [u8],
-    usize,
-    &'static [usize],
-    &'static [u64],
-    Ending<StoreFault>,
-    usize,
-);
-
+// The front of an input, how many of its bytes count, what stands behind them, and how many sevens at the end; the steps
+// of its source, and the read that fails; how the job ends, and how many bytes it wrote.
+//
 // The reads that fail lie behind the byte that decides the fault, which is answered though the input goes on. The last
 // record, of 65,535 bytes, is the longest, and is kept in pieces.
-const ROWS: &[Row] = &[
-    (206, CAPTURE, b"", 0, &[1, 3, 4096], &[], Ending::Ok, 107),
-    (
-        205,
-        CAPTURE,
-        b"",
-        0,
-        &[1, 3, 4096],
-        &[],
-        Ending::Refused(StoreFault::StoreCut(205)),
-        93,
-    ),
-    (
-        15,
-        b"#!Atpplay1.0 /\n",
-        b"",
-        0,
-        &[1],
-        &[4],
-        Ending::Refused(StoreFault::DumpLine(2)),
-        0,
-    ),
-    (
-        30,
-        OPENING,
-        b"\0\x07\0\0\0\0\0\0",
-        0,
-        &[1],
-        &[33],
-        Ending::Refused(StoreFault::DumpLength(30)),
-        0,
-    ),
-    (
-        30,
-        OPENING,
-        b"\xFF\xFF\xFF\xF7\0\0\0\0",
-        65_527,
-        &[1000, 4096],
-        &[],
-        Ending::Ok,
-        65_527,
-    ),
-];
+const ROWS: &str = "\
+CAPTURE | 206 |  | 0 = 1 3 4096 = Ok 107
+CAPTURE | 205 |  | 0 = 1 3 4096 = Refused(StoreCut(205)) 93
+'#!Atpplay1.0 /' | 14 | 0A | 0 = 1 failing 4 = Refused(DumpLine(2)) 0
+OPENING | 30 | 0007 0000 00000000 | 0 = 1 failing 33 = Refused(DumpLength(30)) 0
+OPENING | 30 | FFFF FFF7 00000000 | 65527 = 1000 4096 = Ok 65527
+";
 
-fn input_of(alloc: Global, row: &Row) -> Result<Vec<u8>, AllocError> {
-    let mut input = Vec::from_slice(alloc, row.1.get(..row.0).unwrap_or(&[]))?;
-    input.extend_from_slice(row.2)?;
-    for _ in 0..row.3 {
+// The bytes of the first two columns.
+fn front_and_length(alloc: Global, columns: &str) -> Result<Vec<u8>, Fail> {
+    let (front, count) = columns.split_once(" | ").ok_or("a front has a length")?;
+    let mut input = front_of(alloc, front)?;
+    let count = count.parse::<usize>()?;
+    if count > input.len() {
+        return Err("a front is no longer".into());
+    }
+    input.truncate(count);
+    Ok(input)
+}
+
+fn input_of(alloc: Global, columns: &str) -> Result<Vec<u8>, Fail> {
+    let (columns, sevens) = columns.rsplit_once(" | ").ok_or("an input has sevens")?;
+    let (columns, behind) = columns.rsplit_once(" | ").ok_or("an input has a front")?;
+    let mut input = front_and_length(alloc, columns)?;
+    input.extend_from_slice(&bytes_of(alloc, behind)?)?;
+    for _ in 0..sevens.parse::<usize>()? {
         input.push(7)?;
     }
     Ok(input)
 }
 
-fn ends_so(alloc: Global, input: &[u8], step: usize, row: &Row) -> Result<bool, Fail> {
-    let mut source = MemorySource::new(alloc, input, step.max(1), row.5)?;
+// The numbers of the reads that fail.
+fn failing_of(alloc: Global, column: &str) -> Result<Vec<u64>, Fail> {
+    let mut reads = Vec::new(alloc);
+    for read in column.split_whitespace() {
+        reads.push(read.parse::<u64>()?)?;
+    }
+    Ok(reads)
+}
+
+fn ends_so(
+    alloc: Global,
+    input: &[u8],
+    step: usize,
+    failing: &[u64],
+    want: &str,
+) -> Result<bool, Fail> {
+    let mut source = MemorySource::new(alloc, input, step.max(1), failing)?;
     let mut sink = MemorySink::new(alloc, 4096, &[])?;
     let form = DumpForm::new(alloc)?;
     let end = run_job(alloc, 100_000, form, &mut Packets, &mut source, &mut sink);
-    Ok((end, sink.contents().len()) == (row.6, row.7))
+    let told = format!(in alloc; "{end:?} {}", sink.contents().len())?;
+    Ok(told.as_str() == want)
 }
 
-fn all_end_so(alloc: Global, row: &Row) -> Result<bool, Fail> {
-    let input = input_of(alloc, row)?;
-    let mut all = true;
-    for step in row.4 {
-        all = all && ends_so(alloc, &input, *step, row)?;
+// Runs over the input from a source with each of these steps end so.
+fn all_end_so(alloc: Global, input: &[u8], source: &str, want: &str) -> Result<bool, Fail> {
+    let (steps, failing) = source.split_once(" failing ").unwrap_or((source, ""));
+    let failing = failing_of(alloc, failing)?;
+    let mut all = !steps.is_empty();
+    for step in steps.split_whitespace() {
+        all = all && ends_so(alloc, input, step.parse::<usize>()?, &failing, want)?;
     }
     Ok(all)
 }
 
+fn is_run(alloc: Global, row: &str) -> Result<bool, Fail> {
+    let (input, rest) = row.split_once(" = ").ok_or("a row has an input")?;
+    let (source, want) = rest.split_once(" = ").ok_or("a row has an end")?;
+    all_end_so(alloc, &input_of(alloc, input)?, source, want)
+}
+
 #[test]
 fn a_run_writes_the_packets(rt: HostRuntime) -> Result<(), Fail> {
-    for row in ROWS {
-        assert!(rt; all_end_so(rt.alloc(), row)?, "{row:?}");
+    for row in ROWS.lines() {
+        assert!(rt; is_run(rt.alloc(), row)?, "{row}");
     }
     Ok(())
 }

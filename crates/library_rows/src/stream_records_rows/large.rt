@@ -1,49 +1,29 @@
 //! Many streams, and much padding.
 
-use super::{DROP, KEEP, MOST, STEPS, Spelled, are_spelled, feeds};
+use super::{DROP, MOST, STEPS, feed_all, padding_of, tell_held};
 use job_loop::Form;
-use opus_feed::Padding;
 use pack_records::Cut;
 use std::alloc::{AllocError, Global};
 use std::test::Fail;
-use stream_records::{RawStreams, StreamsFound, StreamsItem};
+use stream_records::{RawStreams, StreamsItem};
 
-// Feeds all of the input in pieces of `step` bytes. Whether none of them decides its record.
-fn is_open_to_its_end<F: Form<Record = StreamsItem, Cut = Cut>>(
-    form: &mut F,
-    input: &[u8],
-    step: usize,
-) -> Result<bool, Fail> {
-    let mut rest = input;
-    let mut at: u64 = 0;
-    for _ in 0..input.len() {
-        let piece = rest.get(..step).unwrap_or(rest);
-        if !piece.is_empty() {
-            let Some(fed) = feeds(form, at, piece, None)? else {
-                return Ok(false);
-            };
-            at = at.saturating_add(fed.count as u64);
-            rest = rest.get(fed.count..).unwrap_or(&[]);
-        }
-    }
-    Ok(rest.is_empty())
-}
-
-// The record of the input is these streams, with these bytes.
+// The end of the input, and no byte before, decides its record, which holds this, and with which these bytes are lent.
 fn has<F: Form<Record = StreamsItem, Cut = Cut>>(
+    alloc: Global,
     form: &mut F,
     input: &[u8],
     step: usize,
-    spelled: &[Spelled],
+    held: &str,
     bytes: &[u8],
 ) -> Result<bool, Fail> {
-    let late = is_open_to_its_end(form, input, step)?;
+    let mut told = String::new(alloc);
+    feed_all(form, input, step, &mut told)?;
     if !form.end((input.len() as u64).min(MOST)).whole {
         return Ok(false);
     }
     let lent = form.record(&[]);
-    let found = lent.item().found == StreamsFound::Packets;
-    Ok(late && found && are_spelled(lent.item(), spelled) && lent.bytes() == bytes)
+    tell_held(&mut told, lent.item())?;
+    Ok(told.as_str() == held && lent.bytes() == bytes)
 }
 
 // 254 empty self-delimited packets and one undelimited packet of one byte.
@@ -56,12 +36,21 @@ fn of_255_streams(alloc: Global) -> Result<Vec<u8>, AllocError> {
     Ok(bytes)
 }
 
+// What is told of 255 such streams.
+fn held_of_255_streams(alloc: Global) -> Result<String, AllocError> {
+    let mut held = String::from_str(alloc, "Packets")?;
+    for _ in 0..254 {
+        held.push_str(" (0, 0, 2, 0)")?;
+    }
+    held.push_str(" (0, 0, 1, 0)")?;
+    Ok(held)
+}
+
 fn are_255(alloc: Global, step: usize) -> Result<bool, Fail> {
     let bytes = of_255_streams(alloc)?;
-    let mut spelled = [(0, 0, 2, 0); 255];
-    spelled[254] = (0, 0, 1, 0);
+    let held = held_of_255_streams(alloc)?;
     let mut form = RawStreams::new(alloc, 255, DROP)?;
-    has(&mut form, &bytes, step, &spelled, &bytes)
+    has(alloc, &mut form, &bytes, step, held.as_str(), &bytes)
 }
 
 #[test]
@@ -72,13 +61,13 @@ fn reads_255_streams(rt: HostRuntime) -> Result<(), Fail> {
     Ok(())
 }
 
-// The padding bytes of the first of two streams beyond 65,532, what becomes of them, how that stream is spelled, and
-// whether the bytes lent are the input's. Else they are those of the canonical form.
-const PADDINGS: &[(u8, Padding, Spelled, bool)] = &[
-    (3, KEEP, (3, 65794, 65798, 0), true),
-    (3, DROP, (3, 65794, 65798, 65535), false),
-    (4, KEEP, (3, 65795, 65799, 65536), false),
-];
+// The padding bytes of the first of two streams beyond 65,532, and what becomes of them; how the streams are spelled; and
+// the bytes lent, which are the input's or those of the canonical form.
+const PADDINGS: &str = "\
+3 keep | Packets (3, 65794, 65798, 0) (0, 0, 2, 0) | input
+3 drop | Packets (3, 65794, 65798, 65535) (0, 0, 2, 0) | canonical
+4 keep | Packets (3, 65795, 65799, 65536) (0, 0, 2, 0) | canonical
+";
 
 // Two streams, the first with 65,532 padding bytes and `last` others.
 fn padded(alloc: Global, last: u8) -> Result<Vec<u8>, AllocError> {
@@ -91,19 +80,36 @@ fn padded(alloc: Global, last: u8) -> Result<Vec<u8>, AllocError> {
     Ok(bytes)
 }
 
-fn is_kept(alloc: Global, row: &(u8, Padding, Spelled, bool), step: usize) -> Result<bool, Fail> {
-    let input = padded(alloc, row.0)?;
-    let plain: &[u8] = b"\xF8\x01\xAA\xF8\xBB";
-    let kept = if row.3 { input.as_slice() } else { plain };
-    let mut form = RawStreams::new(alloc, 2, row.1)?;
-    has(&mut form, &input, step, &[row.2, (0, 0, 2, 0)], kept)
+// The form holds this of the input, and lends the bytes that the word `lent` names.
+fn holds(
+    alloc: Global,
+    form: &mut RawStreams,
+    input: &[u8],
+    step: usize,
+    held: &str,
+    lent: &str,
+) -> Result<bool, Fail> {
+    match lent {
+        "input" => has(alloc, form, input, step, held, input),
+        "canonical" => has(alloc, form, input, step, held, b"\xF8\x01\xAA\xF8\xBB"),
+        _ => Err("the bytes lent have a name".into()),
+    }
+}
+
+fn is_kept(alloc: Global, row: &str, step: usize) -> Result<bool, Fail> {
+    let (choices, rest) = row.split_once(" | ").ok_or("a row has choices")?;
+    let (last, padding) = choices.split_once(' ').ok_or("there are two choices")?;
+    let (held, lent) = rest.split_once(" | ").ok_or("a row says what is wanted")?;
+    let input = padded(alloc, last.parse::<u8>()?)?;
+    let mut form = RawStreams::new(alloc, 2, padding_of(padding)?)?;
+    holds(alloc, &mut form, &input, step, held, lent)
 }
 
 #[test]
 fn padding_bytes_are_kept_up_to_65535(rt: HostRuntime) -> Result<(), Fail> {
-    for row in PADDINGS {
+    for row in PADDINGS.lines() {
         for step in STEPS {
-            assert!(rt; is_kept(rt.alloc(), row, step)?, "{row:?} by {step}");
+            assert!(rt; is_kept(rt.alloc(), row, step)?, "{row} by {step}");
         }
     }
     Ok(())
