@@ -6,6 +6,7 @@ use crate::status::Status;
 use opus_io::{MemorySink, MemorySource, Source};
 use std::alloc::Global;
 use std::test::Fail;
+use table::{bytes_of, columns, is_row};
 
 mod capture;
 mod check;
@@ -22,6 +23,7 @@ mod pad;
 mod send;
 mod split;
 mod streams;
+mod table;
 mod trial;
 mod words;
 
@@ -29,8 +31,8 @@ mod words;
 /// where the run ends well.
 pub(crate) type Row<'a> = (&'a str, &'a [u8], &'a [u8], &'a str);
 
-/// The words of a run that reads nothing, and its whole output.
-pub(crate) type Made = (&'static str, &'static [u8]);
+// The words of a run that reads nothing, and its whole output.
+type Made<'a> = (&'a str, &'a [u8]);
 
 /// What surrounds a run: the limit, the most bytes of a read, and the reads that fail; the most bytes of a write, and
 /// the writes that fail.
@@ -155,9 +157,9 @@ pub(crate) fn all_writes_met(
     Ok(true)
 }
 
-/// Whether the output is made, and each write that fails leaves the bytes before it. No byte is read: the first read
-/// would fail, and the input is longer than the limit.
-pub(crate) fn is_made(alloc: Global, row: &Made) -> Result<bool, Fail> {
+// Whether the output is made, and each write that fails leaves the bytes before it. No byte is read: the first read
+// would fail, and the input is longer than the limit.
+fn is_made(alloc: Global, row: &Made<'_>) -> Result<bool, Fail> {
     let around = Around {
         limit: 1,
         reads: &[1],
@@ -165,4 +167,60 @@ pub(crate) fn is_made(alloc: Global, row: &Made) -> Result<bool, Fail> {
     };
     let unread = is_met_in(alloc, &around, &(row.0, b"input", row.1, ""))?;
     Ok(unread && all_writes_met(alloc, row.0, b"", row.1)?)
+}
+
+// The tables whose rows have the words of a run, its input, its output and its note.
+const RUNS: &[&str] = &[
+    norm::ROWS,
+    merge::ROWS,
+    split::ROWS,
+    pad::ROWS,
+    check::ROWS,
+    streams::ROWS,
+    send::ROWS,
+    lines::ROWS,
+    head::ROWS,
+    words::ROWS,
+];
+
+fn is_run_met(alloc: Global, line: &str) -> Result<bool, Fail> {
+    let columns = columns(alloc, line)?;
+    let [words, input, output, note] = columns.as_slice() else {
+        return Err(Fail::from("a run has four columns"));
+    };
+    let input = bytes_of(alloc, input)?;
+    let output = bytes_of(alloc, output)?;
+    is_met(alloc, &(*words, input.as_slice(), output.as_slice(), *note))
+}
+
+#[test]
+fn runs_end_as_their_rows_say(rt: HostRuntime) -> Result<(), Fail> {
+    for table in RUNS {
+        for row in table.lines().filter(|line| is_row(line)) {
+            assert!(rt; is_run_met(rt.alloc(), row)?, "{row}");
+        }
+    }
+    Ok(())
+}
+
+// The tables whose rows have the words of a run that reads nothing, and its output.
+const MADE: &[&str] = &[make::ROWS, trial::ROWS];
+
+fn is_line_made(alloc: Global, line: &str) -> Result<bool, Fail> {
+    let columns = columns(alloc, line)?;
+    let [words, output] = columns.as_slice() else {
+        return Err(Fail::from("such a run has two columns"));
+    };
+    let output = bytes_of(alloc, output)?;
+    is_made(alloc, &(*words, output.as_slice()))
+}
+
+#[test]
+fn make_and_trial_write_what_their_rows_say(rt: HostRuntime) -> Result<(), Fail> {
+    for table in MADE {
+        for row in table.lines().filter(|line| is_row(line)) {
+            assert!(rt; is_line_made(rt.alloc(), row)?, "{row}");
+        }
+    }
+    Ok(())
 }

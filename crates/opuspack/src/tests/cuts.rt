@@ -1,132 +1,119 @@
 //! Inputs that are cut at each of their bytes.
-use super::merge::THREE;
-use super::{Row, is_met};
+use super::is_met;
+use super::table::{bytes_of, columns};
 use std::alloc::Global;
 use std::test::Fail;
 
-// The output of an input that is cut, and the note.
-type Cut = (&'static [u8], &'static str);
+// Each table has words and an input in its first line. Then come the output and the note of the input that is cut behind
+// no byte, behind one, behind two, .., and nowhere.
+const TABLES: &[&str] = &[TWO_FRAMES, PADDED, TWO_PACKETS, TWO_STREAMS, THREE_RECORDS];
 
-// Words, an input, and what becomes of it where it is cut behind no byte, behind one, behind two, .., and nowhere.
-type Cuts = (&'static str, &'static [u8], &'static [Cut]);
+// Two frames, the first with its length.
+const TWO_FRAMES: &str = r"norm | fa02aabbccdd
+| refused: record 0 at 0: R1 at 0
+| refused: record 0 at 1: R4 at 1
+| refused: record 0 at 2: R4 at 2
+| refused: record 0 at 3: R4 at 3
+fa02aabb |
+fa02aabbcc |
+f9aabbccdd |";
 
-const CUTS: &[Cuts] = &[
-    // Two frames, the first with its length.
-    (
-        "norm",
-        b"\xfa\x02\xaa\xbb\xcc\xdd",
-        &[
-            (b"", "refused: record 0 at 0: R1 at 0"),
-            (b"", "refused: record 0 at 1: R4 at 1"),
-            (b"", "refused: record 0 at 2: R4 at 2"),
-            (b"", "refused: record 0 at 3: R4 at 3"),
-            (b"\xfa\x02\xaa\xbb", ""),
-            (b"\xfa\x02\xaa\xbb\xcc", ""),
-            (b"\xf9\xaa\xbb\xcc\xdd", ""),
-        ],
-    ),
-    // Two frames with lengths of their own, and two padding bytes.
-    (
-        "norm",
-        b"\xfb\xc2\x02\x01\xaa\xbb\0\0",
-        &[
-            (b"", "refused: record 0 at 0: R1 at 0"),
-            (b"", "refused: record 0 at 1: R6 at 1"),
-            (b"", "refused: record 0 at 2: R7 at 2"),
-            (b"", "refused: record 0 at 3: R7 at 3"),
-            (b"", "refused: record 0 at 4: R7 at 4"),
-            (b"", "refused: record 0 at 5: R7 at 5"),
-            (b"", "refused: record 0 at 6: R7 at 6"),
-            (b"\xfa\x01\xaa", ""),
-            (b"\xf9\xaa\xbb", ""),
-        ],
-    ),
-    // Two self-delimited packets.
-    (
-        "norm --form self",
-        b"\xf8\x02\xaa\xbb\xf8\0",
-        &[
-            (b"", ""),
-            (b"", "refused: record 0 at 1: Cut at 1"),
-            (b"", "refused: record 0 at 2: Cut at 2"),
-            (b"", "refused: record 0 at 3: Cut at 3"),
-            (b"\xf8\x02\xaa\xbb", ""),
-            (b"\xf8\x02\xaa\xbb", "refused: record 1 at 5: Cut at 1"),
-            (b"\xf8\x02\xaa\xbb\xf8\0", ""),
-        ],
-    ),
-    // A packet of two streams.
-    (
-        "norm --streams 2",
-        b"\xf8\x01\xaa\xf8\xbb",
-        &[
-            (b"", "refused: record 0 at 0: stream 0 Cut at 0"),
-            (b"", "refused: record 0 at 1: stream 0 Cut at 1"),
-            (b"", "refused: record 0 at 2: stream 0 Cut at 2"),
-            (b"", "refused: record 0 at 3: stream 1 R1 at 0"),
-            (b"\xf8\x01\xaa\xf8", ""),
-            (b"\xf8\x01\xaa\xf8\xbb", ""),
-        ],
-    ),
-    // A store of three records.
-    (
-        "merge",
-        THREE,
-        &[
-            (b"", ""),
-            (b"", "refused: record 0 at 1: store cut"),
-            (b"", "refused: record 0 at 2: store cut"),
-            (b"", "refused: record 0 at 3: store cut"),
-            (b"", "refused: record 0 at 4: store cut"),
-            (b"", "refused: record 0 at 5: store cut"),
-            (b"", "refused: record 0 at 6: store cut"),
-            (b"", "refused: record 0 at 7: store cut"),
-            (b"", "refused: record 0 at 8: store cut"),
-            (b"", "refused: record 0 at 9: store cut"),
-            (b"\0\0\0\x02\0\0\0\x01\xf8\xaa", ""),
-            (b"", "refused: record 1 at 11: store cut"),
-            (b"", "refused: record 1 at 12: store cut"),
-            (b"", "refused: record 1 at 13: store cut"),
-            (b"", "refused: record 1 at 14: store cut"),
-            (b"", "refused: record 1 at 15: store cut"),
-            (b"", "refused: record 1 at 16: store cut"),
-            (b"", "refused: record 1 at 17: store cut"),
-            (b"", "refused: record 1 at 18: store cut"),
-            (b"", "refused: record 1 at 19: store cut"),
-            (b"\0\0\0\x03\0\0\0\x02\xf9\xaa\xbb", ""),
-            (b"", "refused: record 2 at 21: store cut"),
-            (b"", "refused: record 2 at 22: store cut"),
-            (b"", "refused: record 2 at 23: store cut"),
-            (b"", "refused: record 2 at 24: store cut"),
-            (b"", "refused: record 2 at 25: store cut"),
-            (b"", "refused: record 2 at 26: store cut"),
-            (b"", "refused: record 2 at 27: store cut"),
-            (b"", "refused: record 2 at 28: store cut"),
-            (b"", "refused: record 2 at 29: store cut"),
-            (b"\0\0\0\x05\0\0\0\x03\xfb\x03\xaa\xbb\xcc", ""),
-        ],
-    ),
-];
+// Two frames with lengths of their own, and two padding bytes.
+const PADDED: &str = r"norm | fbc20201aabb0000
+| refused: record 0 at 0: R1 at 0
+| refused: record 0 at 1: R6 at 1
+| refused: record 0 at 2: R7 at 2
+| refused: record 0 at 3: R7 at 3
+| refused: record 0 at 4: R7 at 4
+| refused: record 0 at 5: R7 at 5
+| refused: record 0 at 6: R7 at 6
+fa01aa |
+f9aabb |";
 
-// Whether the front of the input ends so at each length.
-fn all_cuts_met(alloc: Global, row: &Cuts) -> Result<bool, Fail> {
-    let (words, input, cuts) = *row;
-    for (length, (output, note)) in cuts.iter().enumerate() {
-        let Some(front) = input.get(..length) else {
-            return Ok(false);
-        };
-        let run: Row<'_> = (words, front, *output, *note);
-        if !is_met(alloc, &run)? {
+// Two self-delimited packets.
+const TWO_PACKETS: &str = r"norm --form self | f802aabbf800
+|
+| refused: record 0 at 1: Cut at 1
+| refused: record 0 at 2: Cut at 2
+| refused: record 0 at 3: Cut at 3
+f802aabb |
+f802aabb | refused: record 1 at 5: Cut at 1
+f802aabbf800 |";
+
+// A packet of two streams.
+const TWO_STREAMS: &str = r"norm --streams 2 | f801aaf8bb
+| refused: record 0 at 0: stream 0 Cut at 0
+| refused: record 0 at 1: stream 0 Cut at 1
+| refused: record 0 at 2: stream 0 Cut at 2
+| refused: record 0 at 3: stream 1 R1 at 0
+f801aaf8 |
+f801aaf8bb |";
+
+// A store of three records.
+const THREE_RECORDS: &str = r"merge | THREE
+|
+| refused: record 0 at 1: store cut
+| refused: record 0 at 2: store cut
+| refused: record 0 at 3: store cut
+| refused: record 0 at 4: store cut
+| refused: record 0 at 5: store cut
+| refused: record 0 at 6: store cut
+| refused: record 0 at 7: store cut
+| refused: record 0 at 8: store cut
+| refused: record 0 at 9: store cut
+00000002 00000001 f8aa |
+| refused: record 1 at 11: store cut
+| refused: record 1 at 12: store cut
+| refused: record 1 at 13: store cut
+| refused: record 1 at 14: store cut
+| refused: record 1 at 15: store cut
+| refused: record 1 at 16: store cut
+| refused: record 1 at 17: store cut
+| refused: record 1 at 18: store cut
+| refused: record 1 at 19: store cut
+00000003 00000002 f9aabb |
+| refused: record 2 at 21: store cut
+| refused: record 2 at 22: store cut
+| refused: record 2 at 23: store cut
+| refused: record 2 at 24: store cut
+| refused: record 2 at 25: store cut
+| refused: record 2 at 26: store cut
+| refused: record 2 at 27: store cut
+| refused: record 2 at 28: store cut
+| refused: record 2 at 29: store cut
+00000005 00000003 fb03aabbcc |";
+
+// Whether the front of the input ends as its line says.
+fn is_cut_met(alloc: Global, words: &str, front: &[u8], line: &str) -> Result<bool, Fail> {
+    let columns = columns(alloc, line)?;
+    let [output, note] = columns.as_slice() else {
+        return Err(Fail::from("a cut has two columns"));
+    };
+    let output = bytes_of(alloc, output)?;
+    is_met(alloc, &(words, front, output.as_slice(), *note))
+}
+
+// The same of each length.
+fn all_cuts_met(alloc: Global, table: &str) -> Result<bool, Fail> {
+    let (first, cuts) = table.split_once('\n').ok_or("a table has lines")?;
+    let columns = columns(alloc, first)?;
+    let [words, input] = columns.as_slice() else {
+        return Err(Fail::from("a table begins with two columns"));
+    };
+    let input = bytes_of(alloc, input)?;
+    for (length, line) in cuts.lines().enumerate() {
+        let front = input.get(..length).ok_or("a line too many")?;
+        if !is_cut_met(alloc, words, front, line)? {
             return Ok(false);
         }
     }
-    Ok(cuts.len() == input.len() + 1)
+    Ok(cuts.lines().count() == input.len().saturating_add(1))
 }
 
 #[test]
 fn ends_by_where_the_input_is_cut(rt: HostRuntime) -> Result<(), Fail> {
-    for row in CUTS {
-        assert!(rt; all_cuts_met(rt.alloc(), row)?, "{row:?}");
+    for table in TABLES {
+        assert!(rt; all_cuts_met(rt.alloc(), table)?, "{table}");
     }
     Ok(())
 }

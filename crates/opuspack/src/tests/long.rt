@@ -1,185 +1,50 @@
 //! Long inputs and limits.
-use super::head::STEREO;
-use super::send::HEAD;
+use super::table::{bytes_of, columns, is_row};
 use super::{Around, is_met_in, unfailing};
 use std::alloc::Global;
 use std::test::Fail;
 
-// Bytes, and a byte behind them with how often it stands there.
-type Part = (&'static [u8], u8, usize);
+// Words, the limit, of 2^40 at most, the most bytes of each read, the input, the output, and the note.
+const ROWS: &str = r"
+# The longest frame, and one that is longer.
+norm | 1099511627776 | 4096 | f8 00*1275 | f8 00*1275 |
+norm | 1099511627776 | 4096 | f8 00*1276 | | refused: record 0 at 1276: R2 at 1276
+# Limits.
+norm | 64 | 4096 | f8 00*64 | | input limit
+norm | 65 | 4096 | f8 00*64 | f8 00*64 |
+# A store of two packets, of which the limit cuts the second one.
+send | 17 | 4096 | 00000001 00000000 f8 00000001 00000000 f8 | '#!rtpplay1.0 0.0.0.0/0\n' 00*16 0015 000d 00000000 8060 0000 00000000 00000000 f8 | input limit
+# The faults of a head are decided by its end: where it doesn't end within the limit, nothing is told.
+head | 18 | 1 3 4096 | 'OpusHead' 01 02 3801 80bb0000 0000 00 | | input limit
+head | 1 | 1 3 4096 | 'OpusHead' 01 02 3801 80bb0000 0000 00 | | input limit
+head | 7 | 1 3 4096 | 'OpusTags' | | input limit
+head | 1 | 1 3 4096 | 0000 | | input limit
+# Padding of any length is dropped.
+norm | 1099511627776 | 4096 | fb41feaa 00*254 | f8aa |
+norm | 1099511627776 | 4096 | fb41ff00aa 00*254 | f8aa |
+norm | 1099511627776 | 4096 | fb41 ff*65793 | | refused: record 0 at 65794: PadLimit at 65794
+norm | 1099511627776 | 4096 | fb41 ff*65792 feaa 00*16711422 | f8aa |
+# Padding up to 65,535 bytes is kept.
+norm --padding keep | 1099511627776 | 4096 | fb41ff00aa 00*254 | fb41feaa 00*254 |
+norm --padding keep | 1099511627776 | 4096 | fb41 ff*258 03aa 00*65535 | fb41 ff*258 03aa 00*65535 |
+norm --padding keep | 1099511627776 | 4096 | fb41 ff*258 04aa 00*65536 | | refused: record 0 at 65798: padding long
+";
 
-// Words, the limit, the most bytes of each read, the parts of the input, those of the output, and the note.
-type Long = (
-    &'static str,
-    u64,
-    &'static [usize],
-    &'static [Part],
-    &'static [Part],
-    &'static str,
-);
-
-// 2^40, the most bytes of input that the program takes.
-const MOST: u64 = 1_099_511_627_776;
-
-const KEEP: &str = "norm --padding keep";
-
-const ROWS: &[Long] = &[
-    // The longest frame, and one that is longer.
-    (
-        "norm",
-        MOST,
-        &[4096],
-        &[(b"\xf8", 0, 1275)],
-        &[(b"\xf8", 0, 1275)],
-        "",
-    ),
-    (
-        "norm",
-        MOST,
-        &[4096],
-        &[(b"\xf8", 0, 1276)],
-        &[],
-        "refused: record 0 at 1276: R2 at 1276",
-    ),
-    // Limits.
-    ("norm", 64, &[4096], &[(b"\xf8", 0, 64)], &[], "input limit"),
-    (
-        "norm",
-        65,
-        &[4096],
-        &[(b"\xf8", 0, 64)],
-        &[(b"\xf8", 0, 64)],
-        "",
-    ),
-    // A store of two packets, of which the limit cuts the second one.
-    (
-        "send",
-        17,
-        &[4096],
-        &[(b"\0\0\0\x01\0\0\0\0\xf8\0\0\0\x01\0\0\0\0\xf8", 0, 0)],
-        &[
-            (HEAD, 0, 0),
-            (
-                b"\x00\x15\x00\x0d\0\0\0\0\x80\x60\x00\x00\0\0\0\0\0\0\0\0\xf8",
-                0,
-                0,
-            ),
-        ],
-        "input limit",
-    ),
-    // The faults of a head are decided by its end: where it doesn't end within the limit, nothing is told.
-    (
-        "head",
-        18,
-        &[1, 3, 4096],
-        &[(STEREO, 0, 0)],
-        &[],
-        "input limit",
-    ),
-    (
-        "head",
-        1,
-        &[1, 3, 4096],
-        &[(STEREO, 0, 0)],
-        &[],
-        "input limit",
-    ),
-    (
-        "head",
-        7,
-        &[1, 3, 4096],
-        &[(b"OpusTags", 0, 0)],
-        &[],
-        "input limit",
-    ),
-    (
-        "head",
-        1,
-        &[1, 3, 4096],
-        &[(b"\x00\x00", 0, 0)],
-        &[],
-        "input limit",
-    ),
-    // Padding of any length is dropped.
-    (
-        "norm",
-        MOST,
-        &[4096],
-        &[(b"\xfb\x41\xfe\xaa", 0, 254)],
-        &[(b"\xf8\xaa", 0, 0)],
-        "",
-    ),
-    (
-        "norm",
-        MOST,
-        &[4096],
-        &[(b"\xfb\x41\xff\x00\xaa", 0, 254)],
-        &[(b"\xf8\xaa", 0, 0)],
-        "",
-    ),
-    (
-        "norm",
-        MOST,
-        &[4096],
-        &[(b"\xfb\x41", 255, 65793)],
-        &[],
-        "refused: record 0 at 65794: PadLimit at 65794",
-    ),
-    (
-        "norm",
-        MOST,
-        &[4096],
-        &[(b"\xfb\x41", 255, 65792), (b"\xfe\xaa", 0, 16_711_422)],
-        &[(b"\xf8\xaa", 0, 0)],
-        "",
-    ),
-    // Padding up to 65,535 bytes is kept.
-    (
-        KEEP,
-        MOST,
-        &[4096],
-        &[(b"\xfb\x41\xff\x00\xaa", 0, 254)],
-        &[(b"\xfb\x41\xfe\xaa", 0, 254)],
-        "",
-    ),
-    (
-        KEEP,
-        MOST,
-        &[4096],
-        &[(b"\xfb\x41", 255, 258), (b"\x03\xaa", 0, 65535)],
-        &[(b"\xfb\x41", 255, 258), (b"\x03\xaa", 0, 65535)],
-        "",
-    ),
-    (
-        KEEP,
-        MOST,
-        &[4096],
-        &[(b"\xfb\x41", 255, 258), (b"\x04\xaa", 0, 65536)],
-        &[],
-        "refused: record 0 at 65798: padding long",
-    ),
-];
-
-// The parts one after another.
-fn joined(alloc: Global, parts: &[Part]) -> Result<Vec<u8>, Fail> {
-    let mut bytes = Vec::new(alloc);
-    for (front, byte, times) in parts {
-        bytes.extend_from_slice(front)?;
-        bytes.resize(bytes.len().saturating_add(*times), *byte)?;
-    }
-    Ok(bytes)
-}
-
-fn is_told(alloc: Global, row: &Long) -> Result<bool, Fail> {
-    let (words, limit, steps, input, output, note) = *row;
-    let input = joined(alloc, input)?;
-    let output = joined(alloc, output)?;
-    for step in steps {
+fn is_told(alloc: Global, line: &str) -> Result<bool, Fail> {
+    let columns = columns(alloc, line)?;
+    let [words, limit, steps, input, output, note] = columns.as_slice() else {
+        return Err(Fail::from("a long run has six columns"));
+    };
+    let limit = limit.parse().map_err(|_| "a limit is a number")?;
+    let input = bytes_of(alloc, input)?;
+    let output = bytes_of(alloc, output)?;
+    let run = (*words, input.as_slice(), output.as_slice(), *note);
+    for step in steps.split(' ') {
+        let step = step.parse().map_err(|_| "a step is a number")?;
         let around = Around {
             limit,
-            ..unfailing(*step)
+            ..unfailing(step)
         };
-        let run = (words, input.as_slice(), output.as_slice(), note);
         if !is_met_in(alloc, &around, &run)? {
             return Ok(false);
         }
@@ -189,8 +54,8 @@ fn is_told(alloc: Global, row: &Long) -> Result<bool, Fail> {
 
 #[test]
 fn knows_long_packets_and_the_limit(rt: HostRuntime) -> Result<(), Fail> {
-    for row in ROWS {
-        assert!(rt; is_told(rt.alloc(), row)?, "{row:?}");
+    for row in ROWS.lines().filter(|line| is_row(line)) {
+        assert!(rt; is_told(rt.alloc(), row)?, "{row}");
     }
     Ok(())
 }

@@ -1,230 +1,58 @@
 //! merge over stores and self-delimited packets.
-use super::{Row, is_met};
-use std::test::Fail;
-
-const ONES: &str = "merge --group 1";
-
-const TWOS: &str = "merge --group 2";
-
-const MOST: &str = "merge --group 48";
-
-const SELF: &str = "merge --form self";
-
-const SELF_TWOS: &str = "merge --form self --group 2";
 
 /// Three packets with ranges of their own.
-pub(crate) const THREE: &[u8] =
-    b"\0\0\0\x02\0\0\0\x01\xf8\xaa\0\0\0\x02\0\0\0\x02\xf8\xbb\0\0\0\x02\0\0\0\x03\xf8\xcc";
+pub(crate) const THREE: &str =
+    r"00000002 00000001 f8aa 00000002 00000002 f8bb 00000002 00000003 f8cc";
 
-const SEVEN: &[u8] =
-    b"\0\0\0\x02\0\0\0\0\xf8\xaa\0\0\0\x02\0\0\0\0\xf8\xaa\0\0\0\x02\0\0\0\0\xf8\xaa\0\0\0\x02\0\0\0\0\xf8\
-        \xaa\0\0\0\x02\0\0\0\0\xf8\xaa\0\0\0\x02\0\0\0\0\xf8\xaa\0\0\0\x02\0\0\0\0\xf8\xaa";
+/// Seven packets, one more than last 120 ms.
+pub(crate) const SEVEN: &str = r"00000002 00000000 f8aa
+00000002 00000000 f8aa
+00000002 00000000 f8aa
+00000002 00000000 f8aa
+00000002 00000000 f8aa
+00000002 00000000 f8aa
+00000002 00000000 f8aa";
 
-// Six packets, and one of other channels.
-const MIXED_LATE: &[u8] =
-    b"\0\0\0\x02\0\0\0\0\xf8\xaa\0\0\0\x02\0\0\0\0\xf8\xaa\0\0\0\x02\0\0\0\0\xf8\xaa\0\0\0\x02\0\0\0\0\xf8\
-        \xaa\0\0\0\x02\0\0\0\0\xf8\xaa\0\0\0\x02\0\0\0\0\xf8\xaa\0\0\0\x02\0\0\0\0\xfc\xaa";
-
-const ROWS: &[Row<'static>] = &[
-    // Stores.
-    (
-        "merge",
-        THREE,
-        b"\0\0\0\x05\0\0\0\x03\xfb\x03\xaa\xbb\xcc",
-        "",
-    ),
-    (
-        "merge",
-        b"\0\0\0\x02\0\0\0\x01\xf8\xaa\0\0\0\0\0\0\0\x09\0\0\0\x02\0\0\0\x02\xf8\xbb",
-        b"\0\0\0\x02\0\0\0\x01\xf8\xaa\0\0\0\0\0\0\0\x09\0\0\0\x02\0\0\0\x02\xf8\xbb",
-        "",
-    ),
-    ("merge", b"", b"", ""),
-    // a lost record first, between groups of two kinds, last, and alone
-    (
-        "merge",
-        b"\0\0\0\0\0\0\0\x09\0\0\0\x02\0\0\0\x01\xf8\xaa\0\0\0\x02\0\0\0\x02\xf8\xbb",
-        b"\0\0\0\0\0\0\0\x09\0\0\0\x03\0\0\0\x02\xf9\xaa\xbb",
-        "",
-    ),
-    (
-        "merge",
-        b"\0\0\0\x02\0\0\0\x01\xf8\xaa\0\0\0\x02\0\0\0\x02\xf8\xbb\0\0\0\0\0\0\0\x09\0\0\0\x02\0\0\0\x03\xfc\xcc",
-        b"\0\0\0\x03\0\0\0\x02\xf9\xaa\xbb\0\0\0\0\0\0\0\x09\0\0\0\x02\0\0\0\x03\xfc\xcc",
-        "",
-    ),
-    (
-        "merge",
-        b"\0\0\0\x02\0\0\0\x01\xf8\xaa\0\0\0\x02\0\0\0\x02\xf8\xbb\0\0\0\0\0\0\0\x09",
-        b"\0\0\0\x03\0\0\0\x02\xf9\xaa\xbb\0\0\0\0\0\0\0\x09",
-        "",
-    ),
-    (
-        "merge",
-        b"\0\0\0\0\0\0\0\x09\0\0\0\0\0\0\0\x08",
-        b"\0\0\0\0\0\0\0\x09\0\0\0\0\0\0\0\x08",
-        "",
-    ),
-    // padding is left out; frames of several lengths; packets of several frames
-    (
-        "merge",
-        b"\0\0\0\x05\0\0\0\x01\xfb\x41\x01\xaa\0\0\0\0\x02\0\0\0\x02\xf8\xbb",
-        b"\0\0\0\x03\0\0\0\x02\xf9\xaa\xbb",
-        "",
-    ),
-    (
-        "merge",
-        b"\0\0\0\x02\0\0\0\x01\xf8\xaa\0\0\0\x03\0\0\0\x02\xf8\xbb\xcc",
-        b"\0\0\0\x05\0\0\0\x02\xfa\x01\xaa\xbb\xcc",
-        "",
-    ),
-    (
-        "merge",
-        b"\0\0\0\x02\0\0\0\x01\xf8\xaa\0\0\0\x01\0\0\0\x02\xf8\0\0\0\x02\0\0\0\x03\xf8\xcc",
-        b"\0\0\0\x06\0\0\0\x03\xfb\x83\x01\x00\xaa\xcc",
-        "",
-    ),
-    (
-        "merge",
-        b"\0\0\0\x05\0\0\0\x01\xfb\x03\xaa\xbb\xcc\0\0\0\x05\0\0\0\x02\xfb\x03\xdd\xee\xff",
-        b"\0\0\0\x08\0\0\0\x02\xfb\x06\xaa\xbb\xcc\xdd\xee\xff",
-        "",
-    ),
-    ("merge", SEVEN, b"", "refused: record 6 at 70: too long"),
-    (
-        "merge",
-        b"\0\0\0\x02\0\0\0\0\xf8\xaa\0\0\0\x02\0\0\0\0\xfc\xbb",
-        b"",
-        "refused: record 1 at 20: mixed kind",
-    ),
-    (
-        "merge",
-        b"\0\0\0\x02\0\0\0\0\xf8\xaa\0\0\0\x02\0\0\0\0\xf0\xbb",
-        b"",
-        "refused: record 1 at 20: mixed kind",
-    ),
-    (
-        "merge",
-        MIXED_LATE,
-        b"",
-        "refused: record 6 at 70: mixed kind",
-    ),
-    (
-        "merge",
-        b"\0\0\0\x03\0\0\0\x01\xf9\xaa\xbb\0\0\0\x02\0\0\0\x02\xfb\x05",
-        b"",
-        "refused: record 1 at 21: too long",
-    ),
-    (
-        "merge",
-        b"\0\0\0\0\0\0\0\x09\0\0\0\x02\0\0\0\x01\xf8\xaa\0\0\0\x06\0\0\0\x02\xff\x41\x02\xaa\0\0",
-        b"\0\0\0\0\0\0\0\x09",
-        "refused: record 2 at 32: mixed kind",
-    ),
-    (
-        "merge",
-        b"\0\0\0\x02\0\0\0\x01\xf8\xaa\0\0\0\0\0\0\0\x09\0\0\0\x02\0\0\0\x02\xf8\xbb\0\0\0\x02\0\0\0\x03\xfb\x00",
-        b"\0\0\0\x02\0\0\0\x01\xf8\xaa\0\0\0\0\0\0\0\x09",
-        "refused: record 3 at 37: R5 at 1",
-    ),
-    (
-        "merge",
-        b"\0\0\0\x02\0\0\0\x01\xf8\xaa\0\0\0\x02\0\0\0\x02\xf9\xaa",
-        b"",
-        "refused: record 1 at 20: R3 at 2",
-    ),
-    // In groups of one, of two, and of at most 48.
-    (ONES, THREE, THREE, ""),
-    (
-        ONES,
-        b"\0\0\0\x02\0\0\0\x01\xf8\xaa\0\0\0\x02\0\0\0\x02\xfc\xbb",
-        b"\0\0\0\x02\0\0\0\x01\xf8\xaa\0\0\0\x02\0\0\0\x02\xfc\xbb",
-        "",
-    ),
-    (
-        TWOS,
-        THREE,
-        b"\0\0\0\x03\0\0\0\x02\xf9\xaa\xbb\0\0\0\x02\0\0\0\x03\xf8\xcc",
-        "",
-    ),
-    (
-        TWOS,
-        b"\0\0\0\x02\0\0\0\x01\xf8\xaa\0\0\0\0\0\0\0\x09\0\0\0\x02\0\0\0\x02\xf8\xbb\0\0\0\x02\0\0\0\x03\xf8\xcc",
-        b"\0\0\0\x02\0\0\0\x01\xf8\xaa\0\0\0\0\0\0\0\x09\0\0\0\x03\0\0\0\x03\xf9\xbb\xcc",
-        "",
-    ),
-    (
-        TWOS,
-        b"\0\0\0\x02\0\0\0\x01\xf8\xaa\0\0\0\x02\0\0\0\x02\xf8\xbb\0\0\0\0\0\0\0\x09",
-        b"\0\0\0\x03\0\0\0\x02\xf9\xaa\xbb\0\0\0\0\0\0\0\x09",
-        "",
-    ),
-    (
-        TWOS,
-        SEVEN,
-        b"\0\0\0\x03\0\0\0\0\xf9\xaa\xaa\0\0\0\x03\0\0\0\0\xf9\xaa\xaa\0\0\0\x03\0\0\0\0\xf9\xaa\xaa\0\0\0\
-            \x02\0\0\0\0\xf8\xaa",
-        "",
-    ),
-    (
-        TWOS,
-        b"\0\0\0\x02\0\0\0\x01\xf8\xaa\0\0\0\x02\0\0\0\x02\xf8\xbb\0\0\0\x02\0\0\0\x03\xf8\xcc\0\0\0\x02\0\0\
-            \0\x04\xfc\xdd",
-        b"\0\0\0\x03\0\0\0\x02\xf9\xaa\xbb",
-        "refused: record 3 at 40: mixed kind",
-    ),
-    (
-        TWOS,
-        b"\0\0\0\x02\0\0\0\x01\xf8\xaa\0\0\0\x02\0\0\0\x02\xf8\xbb\0\0\0\x02\0\0\0\x03\xf8\xcc\0\0",
-        b"\0\0\0\x03\0\0\0\x02\xf9\xaa\xbb",
-        "refused: record 3 at 32: store cut",
-    ),
-    (MOST, SEVEN, b"", "refused: record 6 at 70: too long"),
-    // Self-delimited packets.
-    (SELF, b"\xf8\x01\xaa\xf8\x01\xbb", b"\xf9\x01\xaa\xbb", ""),
-    (
-        SELF,
-        b"\xf8\x02\xaa\xbb\xf8\x01\xcc",
-        b"\xfa\x02\x01\xaa\xbb\xcc",
-        "",
-    ),
-    (
-        SELF,
-        b"\xf8\x01\xaa\xf8\x00\xf8\x01\xcc",
-        b"\xfb\x83\x01\x00\x01\xaa\xcc",
-        "",
-    ),
-    (SELF, b"", b"", ""),
-    (
-        SELF,
-        b"\xf8\x01\xaa\xfc\x01\xbb",
-        b"",
-        "refused: record 1 at 6: mixed kind",
-    ),
-    (
-        SELF,
-        b"\xf8\x01\xaa\xf8\x02\xbb",
-        b"",
-        "refused: record 1 at 6: Cut at 3",
-    ),
-    (
-        SELF,
-        b"\xfb\x06\x00\xf8\x00",
-        b"",
-        "refused: record 1 at 5: too long",
-    ),
-    (
-        SELF_TWOS,
-        b"\xf8\x01\xaa\xf8\x01\xbb\xfc\x01\xcc",
-        b"\xf9\x01\xaa\xbb\xfc\x01\xcc",
-        "",
-    ),
-];
-
-#[test]
-fn merge_writes_groups_or_names_the_fault(rt: HostRuntime) -> Result<(), Fail> {
-    for row in ROWS {
-        assert!(rt; is_met(rt.alloc(), row)?, "{row:?}");
-    }
-    Ok(())
-}
+pub(crate) const ROWS: &str = r"
+# Stores.
+merge | THREE | 00000005 00000003 fb03aabbcc |
+merge | 00000002 00000001 f8aa 00000000 00000009 00000002 00000002 f8bb | 00000002 00000001 f8aa 00000000 00000009 00000002 00000002 f8bb |
+merge | | |
+# a lost record first, between groups of two kinds, last, and alone
+merge | 00000000 00000009 00000002 00000001 f8aa 00000002 00000002 f8bb | 00000000 00000009 00000003 00000002 f9aabb |
+merge | 00000002 00000001 f8aa 00000002 00000002 f8bb 00000000 00000009 00000002 00000003 fccc | 00000003 00000002 f9aabb 00000000 00000009 00000002 00000003 fccc |
+merge | 00000002 00000001 f8aa 00000002 00000002 f8bb 00000000 00000009 | 00000003 00000002 f9aabb 00000000 00000009 |
+merge | 00000000 00000009 00000000 00000008 | 00000000 00000009 00000000 00000008 |
+# padding is left out; frames of several lengths; packets of several frames
+merge | 00000005 00000001 fb4101aa00 00000002 00000002 f8bb | 00000003 00000002 f9aabb |
+merge | 00000002 00000001 f8aa 00000003 00000002 f8bbcc | 00000005 00000002 fa01aabbcc |
+merge | 00000002 00000001 f8aa 00000001 00000002 f8 00000002 00000003 f8cc | 00000006 00000003 fb830100aacc |
+merge | 00000005 00000001 fb03aabbcc 00000005 00000002 fb03ddeeff | 00000008 00000002 fb06aabbccddeeff |
+merge | SEVEN | | refused: record 6 at 70: too long
+merge | 00000002 00000000 f8aa 00000002 00000000 fcbb | | refused: record 1 at 20: mixed kind
+merge | 00000002 00000000 f8aa 00000002 00000000 f0bb | | refused: record 1 at 20: mixed kind
+merge | 00000002 00000000 f8aa 00000002 00000000 f8aa 00000002 00000000 f8aa 00000002 00000000 f8aa 00000002 00000000 f8aa 00000002 00000000 f8aa 00000002 00000000 fcaa | | refused: record 6 at 70: mixed kind
+merge | 00000003 00000001 f9aabb 00000002 00000002 fb05 | | refused: record 1 at 21: too long
+merge | 00000000 00000009 00000002 00000001 f8aa 00000006 00000002 ff4102aa0000 | 00000000 00000009 | refused: record 2 at 32: mixed kind
+merge | 00000002 00000001 f8aa 00000000 00000009 00000002 00000002 f8bb 00000002 00000003 fb00 | 00000002 00000001 f8aa 00000000 00000009 | refused: record 3 at 37: R5 at 1
+merge | 00000002 00000001 f8aa 00000002 00000002 f9aa | | refused: record 1 at 20: R3 at 2
+# In groups of one, of two, and of at most 48.
+merge --group 1 | THREE | THREE |
+merge --group 1 | 00000002 00000001 f8aa 00000002 00000002 fcbb | 00000002 00000001 f8aa 00000002 00000002 fcbb |
+merge --group 2 | THREE | 00000003 00000002 f9aabb 00000002 00000003 f8cc |
+merge --group 2 | 00000002 00000001 f8aa 00000000 00000009 00000002 00000002 f8bb 00000002 00000003 f8cc | 00000002 00000001 f8aa 00000000 00000009 00000003 00000003 f9bbcc |
+merge --group 2 | 00000002 00000001 f8aa 00000002 00000002 f8bb 00000000 00000009 | 00000003 00000002 f9aabb 00000000 00000009 |
+merge --group 2 | SEVEN | 00000003 00000000 f9aaaa 00000003 00000000 f9aaaa 00000003 00000000 f9aaaa 00000002 00000000 f8aa |
+merge --group 2 | 00000002 00000001 f8aa 00000002 00000002 f8bb 00000002 00000003 f8cc 00000002 00000004 fcdd | 00000003 00000002 f9aabb | refused: record 3 at 40: mixed kind
+merge --group 2 | 00000002 00000001 f8aa 00000002 00000002 f8bb 00000002 00000003 f8cc 0000 | 00000003 00000002 f9aabb | refused: record 3 at 32: store cut
+merge --group 48 | SEVEN | | refused: record 6 at 70: too long
+# Self-delimited packets.
+merge --form self | f801aaf801bb | f901aabb |
+merge --form self | f802aabbf801cc | fa0201aabbcc |
+merge --form self | f801aaf800f801cc | fb83010001aacc |
+merge --form self | | |
+merge --form self | f801aafc01bb | | refused: record 1 at 6: mixed kind
+merge --form self | f801aaf802bb | | refused: record 1 at 6: Cut at 3
+merge --form self | fb0600f800 | | refused: record 1 at 5: too long
+merge --form self --group 2 | f801aaf801bbfc01cc | f901aabbfc01cc |
+";

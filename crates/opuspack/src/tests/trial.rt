@@ -1,55 +1,21 @@
 //! trial: made records in normal form, and their totals. The expected bytes are those of another program, made of the
 //! same rule.
-use super::{Made, is_made, is_met_in, unfailing, words_of};
+use super::{is_met_in, unfailing, words_of};
 use crate::run::{max_input, run};
 use crate::status::Status;
 use opus_io::{MemorySink, MemorySource};
 use std::alloc::Global;
 use std::test::Fail;
 
-const TRIALS: &[Made] = &[
-    (
-        "trial --count 0",
-        b"records 0 lost 0 frames 0 samples 0 in 0 out 0 sum 0\n",
-    ),
-    (
-        "trial --seed 4294967295 --count=0",
-        b"records 0 lost 0 frames 0 samples 0 in 0 out 0 sum 0\n",
-    ),
-    (
-        "trial --seed 0 --count 1",
-        b"\x00\x00\x00\x09\x00\x00\x00\x00\x80\x00\x01\x02\x03\x04\x05\x06\x07records 1 lost 0 frames 1 sampl\
-            es 120 in 9 out 9 sum 156\n",
-    ),
-    (
-        "trial --seed 109 --count 2",
-        b"\x00\x00\x00\x00\x00\x00\x00\x00\x00\x00\x00\x00\x00\x00\x00\x01records 2 lost 2 frames 0 samples 0 \
-            in 0 out 0 sum 0\n",
-    ),
-    (
-        "trial --seed 1665 --count 2",
-        b"\x00\x00\x00\x00\x00\x00\x00\x00\x00\x00\x00\x03\x00\x00\x00\x01\xd0\x00\x01records 2 lost 1 frames \
-            1 samples 480 in 7 out 3 sum 209\n",
-    ),
-    (
-        "--count 2 trial --seed=319",
-        b"\x00\x00\x00\x01\x00\x00\x00\x00\x59\x00\x00\x00\x00\x00\x00\x00\x01records 2 lost 1 frames 2 sampl\
-            es 5760 in 9 out 1 sum 89\n",
-    ),
-    (
-        "trial --seed 637 --count 2",
-        b"\x00\x00\x00\x07\x00\x00\x00\x00\x70\x00\x01\x02\x03\x04\x05\x00\x00\x00\x00\x00\x00\x00\x01records \
-            2 lost 1 frames 1 samples 480 in 10 out 7 sum 127\n",
-    ),
-];
-
-#[test]
-fn trial_writes_normal_records_and_their_totals(rt: HostRuntime) -> Result<(), Fail> {
-    for row in TRIALS {
-        assert!(rt; is_made(rt.alloc(), row)?, "{row:?}");
-    }
-    Ok(())
-}
+pub(crate) const ROWS: &str = r"
+trial --count 0 | 'records 0 lost 0 frames 0 samples 0 in 0 out 0 sum 0\n'
+trial --seed 4294967295 --count=0 | 'records 0 lost 0 frames 0 samples 0 in 0 out 0 sum 0\n'
+trial --seed 0 --count 1 | 00000009 00000000 800001020304050607 'records 1 lost 0 frames 1 samples 120 in 9 out 9 sum 156\n'
+trial --seed 109 --count 2 | 00000000 00000000 00000000 00000001 'records 2 lost 2 frames 0 samples 0 in 0 out 0 sum 0\n'
+trial --seed 1665 --count 2 | 00000000 00000000 00000003 00000001 d00001 'records 2 lost 1 frames 1 samples 480 in 7 out 3 sum 209\n'
+--count 2 trial --seed=319 | 00000001 00000000 59 00000000 00000001 'records 2 lost 1 frames 2 samples 5760 in 9 out 1 sum 89\n'
+trial --seed 637 --count 2 | 00000007 00000000 70000102030405 00000000 00000001 'records 2 lost 1 frames 1 samples 480 in 10 out 7 sum 127\n'
+";
 
 // The words of make and of trial, and the line.
 type Total = (&'static str, &'static str, &'static str);

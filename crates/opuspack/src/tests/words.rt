@@ -1,5 +1,4 @@
 //! Words that stand for no job, and words as they come from a process.
-use super::{Row, is_met};
 use crate::arguments::words_of;
 use crate::finish::Finish;
 use opus_words::UsageKind;
@@ -8,36 +7,18 @@ use std::env::FillError;
 use std::rt::Env;
 use std::test::Fail;
 
-const ROWS: &[Row<'static>] = &[
-    ("norm --loud yes", b"", b"", "usage: words"),
-    ("sing", b"", b"", "usage: job"),
-    ("norm --size 4", b"", b"", "usage: option --size"),
-    ("split --frames 0", b"", b"", "usage: value --frames"),
-    ("pad", b"", b"", "usage: missing --size"),
-    (
-        "extract --streams 2 --stream 2",
-        b"",
-        b"",
-        "usage: value --stream",
-    ),
-    (
-        "norm --form self --streams 2",
-        b"",
-        b"",
-        "usage: value --streams",
-    ),
-    ("--help", b"", b"", "usage: words"),
-    ("norm --padding some", b"", b"", "usage: value --padding"),
-    ("merge --padding keep", b"", b"", "usage: option --padding"),
-];
-
-#[test]
-fn tells_what_is_wrong_with_the_words(rt: HostRuntime) -> Result<(), Fail> {
-    for row in ROWS {
-        assert!(rt; is_met(rt.alloc(), row)?, "{row:?}");
-    }
-    Ok(())
-}
+pub(crate) const ROWS: &str = r"
+norm --loud yes | | | usage: words
+sing | | | usage: job
+norm --size 4 | | | usage: option --size
+split --frames 0 | | | usage: value --frames
+pad | | | usage: missing --size
+extract --streams 2 --stream 2 | | | usage: value --stream
+norm --form self --streams 2 | | | usage: value --streams
+--help | | | usage: words
+norm --padding some | | | usage: value --padding
+merge --padding keep | | | usage: option --padding
+";
 
 // The arguments of a process, its name first.
 #[derive(Drop)]
